@@ -1,16 +1,18 @@
 -- A scan is read exactly where it is one.
-use Rattle.std.proofs.Common.{◌≡◌, ◌⊎◌, ℕ, ◌<◌, Bool, true, false, cond, eqb, List, [], ◌∷◌, ◌++◌, length, take, drop, get_or, Option, Some, None, Result, Ok, Err, refl, sym, ap, subst, ◌∙◌, arith, inl, inr}
-use Rattle.std.specs.Prelude.{◌==◌, IfOk}
-use Rattle.std.proofs.lemmas.Bool.{eqb-true}
-use Rattle.std.proofs.lemmas.Bool.Decides.{nat_tests}
-use Rattle.std.proofs.lemmas.List.{length-append, drop_at, get_or_append_left, take-append-drop}
+use Rattle.std.proofs.Common.{◌≡◌, ℕ, ◌<◌, Bool, true, false, cond, eqb, List, [], ◌∷◌, ◌++◌, length, take, drop, get_or, Option, Some, None, Result, Ok, Err, refl, sym, ap, subst, ◌∙◌, arith, inl, inr}
+use Rattle.std.specs.Prelude.{◌==◌, ◌||◌, nat_eq, codes, IfOk}
+use Rattle.std.specs.List.{starts_with}
+use Rattle.std.proofs.lemmas.Slice.Eq.{starts_is}
+use Rattle.std.proofs.lemmas.Bool.Decides.{nat_tests, Decides-eqb}
+use Rattle.std.proofs.lemmas.List.{length-append, take_at, drop_at, get_or_append_left, take-append-drop}
 use Rattle.gs1_keys.specs.Keys.{is_digit}
 use Rattle.gs1_element.specs.declared.fault.ElementFault.{ElementFault}
 use Rattle.gs1_element.specs.declared.fault.ElementFault.TheVariants.{Empty}
 use Rattle.gs1_element.specs.declared.found.Found.{Found}
 use Rattle.gs1_element.specs.declared.code.Code.{Code}
 use Rattle.gs1_element.specs.Units.{Piece}
-use Rattle.gs1_element.specs.Codes.{cuts, put, collected, nothing, from, prefix_length, code_of}
+use Rattle.gs1_element.specs.Codes.{Cuts, cuts, put, collected, nothing, from, prefix_length, code_of}
+use Rattle.gs1_element.specs.Parts.{pieces_from}
 use Rattle.gs1_element.specs.Scans.{Element, separator, joined, AreElements, pieces_of, HasValues, IsMark, IsScan}
 use Rattle.gs1_element.proofs.Cutting.{cuts_take, cuts_again}
 use Rattle.gs1_element.proofs.Collecting.{bind_is, values_take, values_again}
@@ -23,38 +25,22 @@ ended_none (p ∷ ps) end f c e = let b = bind_is (put f p) (λ g. collected ps 
 
 -- ---- the scanner prefix
 
-abbrev Marked : List ℕ → Type 0
-Marked scan = (get_or scan 0 0 ≡ 93) × (((get_or scan 1 0 ≡ 100) × (get_or scan 2 0 ≡ 50)) ⊎ ((get_or scan 1 0 ≡ 67) × (get_or scan 2 0 ≡ 49)))
+begins : (mark scan : List ℕ) → starts_with nat_eq scan mark ≡ true → take (length mark) scan ≡ mark
+begins mark scan e =
+    let cut : scan ≡ mark ++ drop (length mark) scan = (starts_is Decides-eqb scan mark (starts_with nat_eq scan mark) refl).0 e in
+    ap (take (length mark)) cut ∙ take_at mark (drop (length mark) scan) (length mark) refl
 
-abbrev length_by : Bool → Bool → Bool → Bool → Bool → ℕ
-length_by a b c d e = cond a (cond b (cond c 3 0) (cond d (cond e 3 0) 0)) 0
+abbrev IsMarked : List ℕ → ℕ → Type 0
+IsMarked scan n = IsMark (take n scan) × (length (take n scan) ≡ n)
 
-prefix_cases : (scan : List ℕ) → (prefix_length scan ≡ 0) ⊎ ((prefix_length scan ≡ 3) × Marked scan)
+mark_is : (scan : List ℕ) → IsMarked scan (prefix_length scan)
 unfolding prefix_length
-prefix_cases scan = by (eqb (get_or scan 0 0) 93) (eqb (get_or scan 1 0) 100) (eqb (get_or scan 2 0) 50) (eqb (get_or scan 1 0) 67) (eqb (get_or scan 2 0) 49) refl refl refl refl refl
+mark_is scan = by (starts_with nat_eq scan (codes "]d2")) (starts_with nat_eq scan (codes "]C1")) refl refl
   where
-    by : (a b c d e : Bool) → eqb (get_or scan 0 0) 93 ≡ a → eqb (get_or scan 1 0) 100 ≡ b → eqb (get_or scan 2 0) 50 ≡ c → eqb (get_or scan 1 0) 67 ≡ d → eqb (get_or scan 2 0) 49 ≡ e → (length_by a b c d e ≡ 0) ⊎ ((length_by a b c d e ≡ 3) × Marked scan)
-    by true true true d e h i j k l = inr (refl, (eqb-true _ _ h, inl (eqb-true _ _ i, eqb-true _ _ j)))
-    by true true false d e h i j k l = inl refl
-    by true false c true true h i j k l = inr (refl, (eqb-true _ _ h, inr (eqb-true _ _ k, eqb-true _ _ l)))
-    by true false c true false h i j k l = inl refl
-    by true false c false e h i j k l = inl refl
-    by false b c d e h i j k l = inl refl
-
-three : (scan : List ℕ) → Marked scan → IsMark (take 3 scan) × (length (take 3 scan) ≡ 3)
-three [] m = absurd (omega (arith, m.0))
-three (a ∷ []) m = absurd (elim m.1 as (λ _. ⊥) [ inl x ↦ omega (arith, x.0) | inr x ↦ omega (arith, x.0) ])
-three (a ∷ b ∷ []) m = absurd (elim m.1 as (λ _. ⊥) [ inl x ↦ omega (arith, x.1) | inr x ↦ omega (arith, x.1) ])
-three (a ∷ b ∷ c ∷ rest) m = elim m.1 as (λ _. IsMark (a ∷ b ∷ c ∷ []) × (length (a ∷ b ∷ c ∷ []) ≡ 3)) [
-  | inl x ↦ (inr (inl (rw (m.0, x.0, x.1) refl)), refl)
-  | inr x ↦ (inr (inr (rw (m.0, x.0, x.1) refl)), refl)
-]
-
-mark_is : (scan : List ℕ) → IsMark (take (prefix_length scan) scan) × (length (take (prefix_length scan) scan) ≡ prefix_length scan)
-mark_is scan = elim (prefix_cases scan) as (λ _. IsMark (take (prefix_length scan) scan) × (length (take (prefix_length scan) scan) ≡ prefix_length scan)) [
-  | inl z ↦ rw z (inl refl, refl)
-  | inr z ↦ rw z.0 (three scan z.1)
-]
+    by : (d c : Bool) → starts_with nat_eq scan (codes "]d2") ≡ d → starts_with nat_eq scan (codes "]C1") ≡ c → IsMarked scan (cond (d || c) 3 0)
+    by true c h k = let front : take 3 scan ≡ codes "]d2" = begins (codes "]d2") scan h in (inr (inl front), ap length front)
+    by false true h k = let front : take 3 scan ≡ codes "]C1" = begins (codes "]C1") scan k in (inr (inr front), ap length front)
+    by false false h k = (inl refl, refl)
 
 not_empty : (b : Bool) (r : Result Code ElementFault) (c : Code) → cond b (Err Empty) r ≡ Ok c → r ≡ Ok c
 not_empty true r c e = absurd cc
@@ -75,15 +61,22 @@ code_takes scan c e =
 
 -- ---- the other way
 
-not_bracket : (d : ℕ) → is_digit d ≡ true → eqb d 93 ≡ false
+not_bracket : (d : ℕ) → is_digit d ≡ true → eqb 93 d ≡ false
 not_bracket d h = grind (arith, nat_tests)
+
+-- what begins with a digit has no scanner prefix
+no_bracket : (xs mark : List ℕ) → is_digit (get_or xs 0 0) ≡ true → starts_with nat_eq xs (93 ∷ mark) ≡ false
+no_bracket [] mark h = absurd cc
+no_bracket (x ∷ xs) mark h = rw (not_bracket x h) refl
 
 no_mark : (us : List Element) → AreElements us → prefix_length (joined us) ≡ 0
 unfolding prefix_length
 no_mark [] h = refl
 no_mark (u ∷ us) h =
-    let first : get_or (u.text ++ (separator u.ended ++ joined us)) 0 0 ≡ get_or u.text 0 0 = get_or_append_left u.text (separator u.ended ++ joined us) 0 0 (omega (arith, h.0.0)) in
-    rw (first, not_bracket (get_or u.text 0 0) h.0.1) refl
+    let all : List ℕ = u.text ++ (separator u.ended ++ joined us) in
+    let first : get_or all 0 0 ≡ get_or u.text 0 0 = get_or_append_left u.text (separator u.ended ++ joined us) 0 0 (omega (arith, h.0.0)) in
+    let digit : is_digit (get_or all 0 0) ≡ true = ap is_digit first ∙ h.0.1 in
+    rw (no_bracket all (codes "d2") digit, no_bracket all (codes "C1") digit) refl
 
 prefix_of_mark : (mark : List ℕ) (us : List Element) → IsMark mark → AreElements us → prefix_length (mark ++ joined us) ≡ length mark
 unfolding prefix_length
@@ -92,7 +85,7 @@ prefix_of_mark mark us (inr (inl e)) h = subst (λ (m : List ℕ). prefix_length
 prefix_of_mark mark us (inr (inr e)) h = subst (λ (m : List ℕ). prefix_length (m ++ joined us) ≡ length m) (sym e) refl
 
 some_bytes : (at : ℕ) (us : List Element) (c : Code) → AreElements us → HasValues (pieces_of at us) c → 0 < length (joined us)
-some_bytes at [] c h v = absurd (let e = v.0.1 in cc)
+some_bytes at [] c h v = absurd (let e = v.0.0 in cc)
 some_bytes at (u ∷ us) c h v = omega (arith, h.0.0, length-append u.text (separator u.ended ++ joined us))
 
 pub code_again : (scan : List ℕ) (c : Code) → IsScan scan c → code_of scan ≡ Ok c
@@ -120,3 +113,12 @@ same_code c d e = cc
 
 pub one_code_each : (scan : List ℕ) (c d : Code) → IsScan scan c → IsScan scan d → c ≡ d
 one_code_each scan c d h k = same_code c d (sym (code_again scan c h) ∙ code_again scan d k)
+
+-- the units that a scan is joined of are those that are cut
+pub units_are_cut : (scan mark : List ℕ) (us : List Element) → IsMark mark → AreElements us → scan ≡ mark ++ joined us → pieces_from (prefix_length scan) scan ≡ pieces_of (length mark) us
+units_are_cut scan mark us m h e =
+    let n : prefix_length (mark ++ joined us) ≡ length mark = prefix_of_mark mark us m h in
+    let rest : drop (length mark) (mark ++ joined us) ≡ joined us = drop_at mark (joined us) (length mark) refl in
+    let cut : cuts (length (joined us)) (length mark) (joined us) ≡ (pieces_of (length mark) us, None) = cuts_again us (length (joined us)) (length mark) h (omega arith) in
+    let here : pieces_from (length mark) (mark ++ joined us) ≡ pieces_of (length mark) us = ap (λ (w : List ℕ). (cuts (length w) (length mark) w).0) rest ∙ ap (λ (x : Cuts). x.0) cut in
+    ap (λ (w : List ℕ). pieces_from (prefix_length w) w) e ∙ ap (λ (k : ℕ). pieces_from k (mark ++ joined us)) n ∙ here

@@ -1,10 +1,9 @@
 -- The units that a scan is made of, in any way of cutting it.
-use Rattle.std.specs.Prelude.{◌≡◌, ◌⊎◌, ℕ, ◌+◌, ◌≤◌, Bool, true, false, List, [], ◌∷◌, ◌++◌, length, take, drop, slice_index, Option, Some, None, IsSome, Ok, if◌then◌else◌, ◌==◌}
-use Rattle.gs1_keys.specs.Keys.{is_digit, gtin_of, IsText}
+use Rattle.std.specs.Prelude.{◌≡◌, ◌⊎◌, ℕ, ◌+◌, ◌≤◌, Bool, true, false, List, [], ◌∷◌, ◌++◌, length, take, drop, slice_index, Option, Some, None, IsSome, if◌then◌else◌, ◌==◌, codes}
+use Rattle.gs1_keys.specs.Keys.{is_digit, IsGtin, IsText}
 use Rattle.gs1_element.specs.declared.code.Code.{Code}
 use Rattle.gs1_element.specs.Dates.{is_expiry}
-use Rattle.gs1_element.specs.Units.{run_length, predefined, Piece}
-use Rattle.gs1_element.specs.Codes.{number_of}
+use Rattle.gs1_element.specs.Units.{number_of, run_length, predefined, Piece}
 
 -- a unit's bytes, and whether a separator ends it
 pub record Element : Type 0 where
@@ -15,10 +14,12 @@ abbrev pub separator : Bool → List ℕ
 separator true = 29 ∷ []
 separator false = []
 
+-- the units' bytes, one after the other
 abbrev pub joined : List Element → List ℕ
 joined [] = []
 joined (u ∷ us) = u.text ++ (separator u.ended ++ joined us)
 
+-- the length that is predefined, if one is
 abbrev pub HasLength : Option ℕ → ℕ → Type 0
 HasLength (Some m) n = n ≡ m
 HasLength None n = Unit {0}
@@ -35,6 +36,7 @@ abbrev pub AreElements : List Element → Type 0
 AreElements [] = Unit {0}
 AreElements (u ∷ us) = IsElement u × MayPrecede u us × AreElements us
 
+-- the units with their places, the first of which stands at this one
 abbrev pub pieces_of : ℕ → List Element → List Piece
 pieces_of at [] = []
 pieces_of at (u ∷ us) = record { at = at; code = take 2 u.text; value = drop 2 u.text } ∷ pieces_of (at + (length u.text + length (separator u.ended))) us
@@ -46,11 +48,11 @@ values k (p ∷ ps) = if number_of p.code == k then p.value ∷ values k ps else
 
 -- 01, 10, 17 and 21 stand once each, with the values of the code
 abbrev pub HasValues : List Piece → Code → Type 0
-HasValues ps c = ((gtin : List ℕ) × (values 1 ps ≡ gtin ∷ []) × (gtin_of gtin ≡ Ok c.gtin)) × ((values 10 ps ≡ c.lot ∷ []) × IsText c.lot) × ((values 17 ps ≡ c.expiry ∷ []) × (is_expiry c.expiry ≡ true)) × ((values 21 ps ≡ c.serial ∷ []) × IsText c.serial)
+HasValues ps c = ((values 1 ps ≡ c.gtin ∷ []) × IsGtin c.gtin) × ((values 10 ps ≡ c.lot ∷ []) × IsText c.lot) × ((values 17 ps ≡ c.expiry ∷ []) × (is_expiry c.expiry ≡ true)) × ((values 21 ps ≡ c.serial ∷ []) × IsText c.serial)
 
 -- a scanner prefix: none, ]d2 or ]C1
 abbrev pub IsMark : List ℕ → Type 0
-IsMark mark = (mark ≡ []) ⊎ ((mark ≡ 93 ∷ 100 ∷ 50 ∷ []) ⊎ (mark ≡ 93 ∷ 67 ∷ 49 ∷ []))
+IsMark mark = (mark ≡ []) ⊎ ((mark ≡ codes "]d2") ⊎ (mark ≡ codes "]C1"))
 
 -- the bytes are a scan of the code
 abbrev pub IsScan : List ℕ → Code → Type 0

@@ -1,10 +1,11 @@
 //! The units of a scan, one after the other.
-ghost use Rattle.std.specs.Prelude.{◌≡◌, ◌≤◌, ◌-◌, length};
+ghost use Rattle.std.specs.Prelude.{◌≡◌, ◌≤◌, ◌-◌, ◌++◌, ℕ, List, length};
 
 use crate::parts::{Part, length_of_unit, part_at, past_unit};
 use crate::scan::length_of_prefix;
 
-/// The units of a scan from the left, up to the first that can't be cut.
+/// The units of a scan from the left, each a slice of it: an iterator that ends at the end of the
+/// scan, or before the first unit that is short or has no two digits in front.
 #[derive(Drop)]
 pub struct CodeParts<'a> {
     scan: &'a [u8],
@@ -13,12 +14,16 @@ pub struct CodeParts<'a> {
 }
 
 impl<'a> CodeParts<'a> {
-    ghost use Rattle.gs1_element.specs.Parts.{pieces_left, pieces_from};
     ghost use Rattle.gs1_element.specs.Codes.{prefix_length};
+    ghost use Rattle.gs1_element.specs.Parts.{pieces_left, pieces_from};
+    ghost use Rattle.gs1_element.specs.Scans.{Element, IsMark, AreElements, joined, pieces_of};
 
-    /// The units of a scan.
+    /// The units of a scan, behind its scanner prefix.
     pub fn new(scan: &'a [u8]) -> Self
-        ensures { pieces_left result ≡ pieces_from (prefix_length scan.now) scan.now }
+        ensures cut { pieces_left result ≡ pieces_from (prefix_length scan.now) scan.now }
+        // Of a scan that is whole units they are these units.
+        ensures units { (mark : List ℕ) (us : List Element) → IsMark mark → AreElements us
+            → scan.now ≡ mark ++ joined us → pieces_left result ≡ pieces_of (length mark) us }
     {
         let at = length_of_prefix(scan);
         CodeParts { scan, at }

@@ -2,15 +2,27 @@
 ghost use Rattle.std.specs.Prelude.{◌≡◌, ◌<◌, ◌≤◌, ◌+◌, ◌^◌, length, slice_index, true, IfSome};
 ghost use Rattle.gs1_keys.specs.Keys.{is_digit};
 ghost use Rattle.gs1_element.specs.Units.{Piece, piece_of};
-ghost use Rattle.gs1_element.specs.Codes.{ai, text_fault, gtin_value, text_value, date_value, put, complete, nothing, from, IsPut};
+ghost use Rattle.gs1_element.specs.Codes.{text_fault, gtin_value, text_value, date_value, put, complete, nothing, from, IsPut};
 
 use crate::code::Code;
 use crate::date::fault_of_date;
 use crate::fault::ElementFault;
-use crate::parts::{Part, length_of_unit, part_at, past_unit};
+use crate::parts::{Part, identifier_number, length_of_unit, part_at, past_unit};
 use gs1_keys::{Gtin, KeyFault, Text20, first_not_digit, first_not_in_set};
 
-/// The values that were found so far.
+/// The unit that has the GTIN.
+const GTIN: u8 = 1;
+
+/// The unit that has the batch or lot.
+const LOT: u8 = 10;
+
+/// The unit that has the expiry date.
+const EXPIRY: u8 = 17;
+
+/// The unit that has the serial number.
+const SERIAL: u8 = 21;
+
+/// The values of needed units that were found so far.
 #[derive(Clone, Copy, Debug)]
 pub(crate) struct Found {
     gtin: Option<Gtin>,
@@ -37,11 +49,15 @@ fn fault_of_text(value: &[u8]) -> Option<usize>
     Some(20)
 }
 
+/// The GTIN of a value that begins at a place.
 #[tactic(auto, unfolding(crate::specs::Codes::gtin_value))]
 fn read_gtin(at: usize, value: &[u8]) -> Result<Gtin, ElementFault>
     requires { at + length value.now < 2 ^ 63 }
     ensures { result ≡ gtin_value at value.now }
 {
+    if value.len() != 14 {
+        return Err(ElementFault::BadValue(*b"01", at as u64));
+    }
     match Gtin::read(value) {
         Ok(gtin) => Ok(gtin),
         Err(KeyFault::BadLength(_)) => Err(ElementFault::BadValue(*b"01", at as u64)),
@@ -51,6 +67,7 @@ fn read_gtin(at: usize, value: &[u8]) -> Result<Gtin, ElementFault>
     }
 }
 
+/// The lot or the serial of a value that begins at a place.
 #[tactic(auto, unfolding(crate::specs::Codes::text_value), using(crate::proofs::Texts::text_is))]
 fn read_text(name: [u8; 2], at: usize, value: &[u8]) -> Result<Text20, ElementFault>
     requires { at + length value.now < 2 ^ 63 }
@@ -65,6 +82,7 @@ fn read_text(name: [u8; 2], at: usize, value: &[u8]) -> Result<Text20, ElementFa
     }
 }
 
+/// The expiry of a value that begins at a place.
 #[tactic(auto, unfolding(crate::specs::Codes::date_value))]
 fn read_date(at: usize, value: &[u8]) -> Result<[u8; 6], ElementFault>
     requires { at + length value.now < 2 ^ 63 }
@@ -96,36 +114,36 @@ impl Found {
         }
     }
 
-    /// What was found, with one unit more.
+    /// Takes one unit more, where it is a needed one; after a fault what was found is not told.
     #[tactic(auto, unfolding(crate::specs::Codes::put))]
     pub(crate) fn put(&mut self, part: &Part) -> Result<(), ElementFault>
         requires small { part.now.at + 2 + length part.now.value.now < 2 ^ 63 }
         requires digits { (is_digit (slice_index part.now.code 0) ≡ true) × (is_digit (slice_index part.now.code 1) ≡ true) }
         ensures { IsPut result self.new (put self.old (piece_of part.now)) }
     {
-        match (part.code[0] - b'0') * 10 + (part.code[1] - b'0') {
-            1 => {
+        match identifier_number(part.code) {
+            GTIN => {
                 if self.gtin.is_some() {
                     return Err(ElementFault::Twice(*b"01"));
                 }
                 let gtin = read_gtin(part.at + 2, part.value)?;
                 self.gtin = Some(gtin);
             }
-            10 => {
+            LOT => {
                 if self.lot.is_some() {
                     return Err(ElementFault::Twice(*b"10"));
                 }
                 let lot = read_text(*b"10", part.at + 2, part.value)?;
                 self.lot = Some(lot);
             }
-            17 => {
+            EXPIRY => {
                 if self.expiry.is_some() {
                     return Err(ElementFault::Twice(*b"17"));
                 }
                 let expiry = read_date(part.at + 2, part.value)?;
                 self.expiry = Some(expiry);
             }
-            21 => {
+            SERIAL => {
                 if self.serial.is_some() {
                     return Err(ElementFault::Twice(*b"21"));
                 }

@@ -1,0 +1,7 @@
+pub mod Buffer
+pub mod Digits
+pub mod Keys
+pub mod Schemes
+pub mod Spelled
+pub mod Serials
+pub mod Whole

@@ -1,0 +1,4 @@
+pub mod Reading
+pub mod Serial
+pub mod Urns
+pub mod TextBack
