@@ -1,0 +1,11 @@
+use Rattle.std.specs.Prelude.{◌↔◌, length}
+use Rattle.std.specs.List.{IsDistinct}
+use Rattle.deed_words.specs.Names.{same}
+use Rattle.deed_words.specs.Setups.{names_of}
+use Rattle.deed_words.proofs.setup.names_differ.Given as goal
+
+abbrev pub invariant-loop-first : goal.invariant-loop-first
+invariant-loop-first l = IsDistinct same (names_of l.left) ↔ IsDistinct same (names_of l.stations)
+
+abbrev pub decreases-loop-first : goal.decreases-loop-first
+decreases-loop-first l = length l.left
