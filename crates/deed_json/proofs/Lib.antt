@@ -1,0 +1,5 @@
+pub mod Ascii
+mod Arrays
+mod Floats
+pub mod Urns
+mod Spelled
