@@ -1,0 +1,4 @@
+pub mod Images
+pub mod Moments
+mod PastMoments
+pub mod Pieces

@@ -1,0 +1,5 @@
+pub mod Causes
+pub mod Devices
+pub mod Disks
+pub mod Failing
+pub mod MemoryDisks

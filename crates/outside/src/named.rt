@@ -1,0 +1,25 @@
+//! What a disk in memory remembers beside its content.
+
+use std::snapshot::Snapshot;
+
+/// A range that a write named, and the content that the write found, which takes no room.
+#[derive(Drop)]
+pub(crate) struct Named {
+    pub(crate) at: u64,
+    pub(crate) len: usize,
+    pub(crate) found: Snapshot<Vec<u8>>,
+}
+
+/// What stood at the last sync, and the ranges that writes named since.
+#[derive(Drop)]
+pub(crate) struct Unsynced {
+    pub(crate) synced: Vec<u8>,
+    pub(crate) writes: Vec<Named>,
+}
+
+/// A moment before, which takes no room.
+#[derive(Drop)]
+pub(crate) struct Past {
+    pub(crate) bytes: Snapshot<Vec<u8>>,
+    pub(crate) unsynced: Snapshot<Option<Unsynced>>,
+}
