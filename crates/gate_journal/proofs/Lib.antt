@@ -1,0 +1,12 @@
+mod Crash
+mod Blocks
+mod Settled
+mod Pieces
+mod Touch
+mod Headers
+mod OneMore
+mod Loading
+mod Making
+mod Readings
+mod Everything
+mod FirstWrite

@@ -1,0 +1,28 @@
+//! A journal of payloads on a disk. What is appended is all there or not there at all, at any moment.
+#![tactic(auto)]
+
+mod append;
+mod fault;
+mod frame;
+mod gates;
+mod init;
+mod journal;
+mod laws;
+mod load;
+mod loaded;
+mod payload;
+mod payloads;
+mod read;
+mod reader;
+mod records;
+
+pub use fault::JournalFault;
+pub use frame::Frame;
+pub use journal::Journal;
+pub use laws::one_reading;
+pub use loaded::Loaded;
+pub use payload::Payload;
+pub use payloads::Payloads;
+
+#[cfg(test)]
+mod tests;
