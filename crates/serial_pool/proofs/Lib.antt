@@ -1,0 +1,6 @@
+pub mod Texts
+pub mod Fresh
+pub mod Sofar
+pub mod Told
+pub mod Holding
+pub mod Adding

@@ -1,0 +1,78 @@
+//! Drawing serials from random words.
+ghost use Rattle.std.specs.Prelude.{◌≡◌, ◌++◌, ◌≤◌, IfOk};
+ghost use Rattle.outside.specs.Causes.{HasCauseIf};
+ghost use Rattle.outside.specs.Devices.{Takes};
+ghost use Rattle.serial_pool.specs.Drawing.{candidate, unless_among};
+ghost use Rattle.serial_pool.specs.Ends.{DrawEnds, IsAmple, is_words_fault};
+ghost use Rattle.serial_pool.specs.Held.{had_of};
+
+use crate::candidate::candidate_of;
+use crate::drawn::{DrawnSerial, is_in, was_drawn};
+use crate::fault::DrawFault;
+use crate::plan::DrawPlan;
+use gs1_keys::{Gtin, Serials, Text20};
+use outside::Words;
+use std::alloc::Global;
+
+/// The serial that a word stands for, where it was drawn neither before for the GTIN nor in this draw.
+fn new_serial(
+    drawn: &[DrawnSerial],
+    serials: &Serials,
+    gtin: &Gtin,
+    digits: u8,
+    word: u64,
+) -> Option<Text20>
+    requires some { 1 ≤ digits }
+    requires few { digits ≤ 18 }
+    ensures { result ≡ unless_among (had_of gtin.now drawn.now ++ serials.now) (candidate digits word) }
+{
+    match candidate_of(word, digits) {
+        Some(serial) => {
+            if was_drawn(drawn, gtin, &serial) || is_in(serials, &serial) {
+                None
+            } else {
+                Some(serial)
+            }
+        }
+        None => None,
+    }
+}
+
+/// Draws so many new serials of so many digits for the GTIN, each word's in turn.
+pub(crate) fn draw<W: Words>(
+    alloc: Global,
+    drawn: &[DrawnSerial],
+    gtin: &Gtin,
+    digits: u8,
+    count: u32,
+    words: &mut W,
+) -> Result<DrawPlan, DrawFault>
+    requires some { 1 ≤ digits }
+    requires few { digits ≤ 18 }
+    requires ample { IsAmple (had_of gtin.now drawn.now) digits count }
+    ensures draw { Takes (W.words_left words.old) (W.words_left words.new) (λ taken. DrawEnds (had_of gtin.now drawn.now) digits count taken result) }
+    ensures cause { HasCauseIf (is_words_fault result) (W.word_faults words.old) (W.word_faults words.new) }
+    ensures gtin { IfOk result (λ plan. plan.gtin ≡ gtin.now) }
+{
+    let limit = 4 * u64::from(count) + 64;
+    let mut serials = Serials::new(alloc);
+    let mut found = 0;
+    let mut used = 0;
+    while found < count {
+        if used == limit {
+            return Err(DrawFault::WordsSpent(u64::from(found)));
+        }
+        let Ok(word) = words.next_word() else {
+            return Err(DrawFault::WordsFault);
+        };
+        used += 1;
+        if let Some(serial) = new_serial(drawn, &serials, gtin, digits, word) {
+            serials.push(serial)?;
+            found += 1;
+        }
+    }
+    Ok(DrawPlan {
+        gtin: *gtin,
+        serials,
+    })
+}

@@ -1,0 +1,23 @@
+//! Draws serials for GTINs from random words: of so many digits, at random, and never twice for a GTIN.
+//!
+//! Serials are first planned, which looks for them and makes room, and then committed, which can't fail.
+#![tactic(auto)]
+
+mod candidate;
+mod draw;
+mod drawn;
+mod fault;
+mod known;
+mod laws;
+mod plan;
+mod pool;
+
+pub use candidate::serial_count;
+pub use drawn::DrawnSerial;
+pub use fault::{DrawFault, KnownFault};
+pub use laws::{commits_once, draws_new, takes_the_first};
+pub use plan::{DrawPlan, copied};
+pub use pool::Pool;
+
+#[cfg(test)]
+mod tests;

@@ -1,0 +1,174 @@
+//! The pool of the serials that were drawn.
+ghost use Rattle.std.specs.Prelude.{◌≡◌, ◌≢◌, ◌+◌, ◌^◌, ◌<◌, ◌≤◌, ◌++◌, ℕ, List, [], length as count_of, All, IfOk, OnOk};
+ghost use Rattle.gs1_keys.specs.Keys.{IsText};
+ghost use Rattle.outside.specs.Causes.{HasCauseIf};
+ghost use Rattle.outside.specs.Devices.{Takes};
+ghost use Rattle.serial_pool.specs.Drawing.{is_among};
+ghost use Rattle.serial_pool.specs.Ends.{DrawEnds, KnownEnds, is_words_fault};
+ghost use Rattle.serial_pool.specs.Held.{had_of, drawn_count, drawn_for, AreNew, DrawnOnce, IsPlanFor, HasRoomFor};
+
+use crate::candidate::serial_count;
+use crate::draw::draw;
+use crate::drawn::{DrawnSerial, append, count_drawn, was_drawn};
+use crate::fault::{DrawFault, KnownFault};
+use crate::known::know;
+use crate::plan::DrawPlan;
+use gs1_keys::{Gtin, Memory, Serials, Text20};
+use outside::Words;
+use std::alloc::Global;
+use std::marker::Model;
+
+/// The serials that were drawn, each for a GTIN. No serial of a GTIN is drawn twice.
+#[derive(Drop)]
+pub struct Pool {
+    alloc: Global,
+    drawn: Vec<DrawnSerial>,
+    // For how many more serials there is room.
+    room: usize,
+}
+
+impl Model for Pool {
+    ghost use Rattle.std.specs.Prelude.{vec_capacity};
+    ghost use Rattle.serial_pool.specs.Held.{PoolView, IsPool};
+
+    ghost Value = { PoolView };
+
+    ghost view = { λ p. record { drawn = p.drawn.items; room = p.room } };
+
+    ghost invariant = { λ p. IsPool p.drawn.items p.room (vec_capacity p.drawn) };
+}
+
+impl Pool {
+    /// A pool from which nothing was drawn. It takes no memory.
+    pub fn new(alloc: Global) -> Pool
+        ensures drawn { result.drawn ≡ [] }
+        ensures room { result.room ≡ 0 }
+    {
+        Pool {
+            alloc,
+            drawn: Vec::new(alloc),
+            room: 0,
+        }
+    }
+
+    /// Looks for so many new serials of so many digits, 6 to 18, in the words to come, and makes room for them.
+    /// What was drawn stays; words that were taken are gone, whatever the answer.
+    ///
+    /// # Errors
+    ///
+    /// `PoolThin` exactly where more than half of the serials would be drawn, before any word is taken.
+    /// `WordsSpent` exactly where `4 * count + 64` words held fewer new serials than were asked. `WordsFault` where a
+    /// word couldn't be had. `Memory` where no memory was found.
+    pub fn plan_draw<W: Words>(
+        &mut self,
+        gtin: &Gtin,
+        length: u8,
+        words: &mut W,
+        count: u32,
+    ) -> Result<DrawPlan, DrawFault>
+        requires short { 6 ≤ length }
+        requires long { length ≤ 18 }
+        requires some { 1 ≤ count }
+        requires few { drawn_count gtin.now self.old.drawn + count < 2 ^ 32 }
+        ensures draw { Takes (W.words_left words.old) (W.words_left words.new) (λ taken. DrawEnds (had_of gtin.now self.old.drawn) length count taken result) }
+        ensures cause { HasCauseIf (is_words_fault result) (W.word_faults words.old) (W.word_faults words.new) }
+        ensures new { IfOk result (λ plan. AreNew (had_of gtin.now self.old.drawn) length plan.serials) }
+        ensures texts { IfOk result (λ plan. All IsText plan.serials) }
+        ensures gtin { IfOk result (λ plan. plan.gtin ≡ gtin.now) }
+        ensures made_for { IfOk result (λ plan. IsPlanFor self.new.drawn plan) }
+        ensures room { IfOk result (λ plan. HasRoomFor self.new plan) }
+        ensures drawn { self.new.drawn ≡ self.old.drawn }
+        ensures kept { self.old.room ≤ self.new.room }
+    {
+        let have = u64::from(self.drawn(gtin));
+        let asked = u64::from(count);
+        let half = serial_count(length) / 2;
+        if have + asked > half {
+            return Err(DrawFault::PoolThin(have, asked, half));
+        }
+        let plan = draw(
+            self.alloc,
+            self.drawn.as_slice(),
+            gtin,
+            length,
+            count,
+            words,
+        )?;
+        self.make_room(plan.serials.len())?;
+        Ok(plan)
+    }
+
+    /// Plans serials that were drawn before, as a journal gives them back, each of so many digits, 6 to 18, and makes
+    /// room for them. What was drawn stays.
+    ///
+    /// # Errors
+    ///
+    /// `NotNew` with the place of the first serial that isn't of so many digits, was drawn already for the GTIN, or
+    /// came earlier in the list. `Memory` where no memory was found.
+    pub fn plan_known(
+        &mut self,
+        gtin: &Gtin,
+        length: u8,
+        serials: &Serials,
+    ) -> Result<DrawPlan, KnownFault>
+        requires short { 6 ≤ length }
+        requires long { length ≤ 18 }
+        requires few { drawn_count gtin.now self.old.drawn + count_of serials.now < 2 ^ 32 }
+        ensures known { KnownEnds (had_of gtin.now self.old.drawn) length serials.now result }
+        ensures gtin { IfOk result (λ plan. plan.gtin ≡ gtin.now) }
+        ensures made_for { IfOk result (λ plan. IsPlanFor self.new.drawn plan) }
+        ensures room { IfOk result (λ plan. HasRoomFor self.new plan) }
+        ensures drawn { self.new.drawn ≡ self.old.drawn }
+        ensures kept { self.old.room ≤ self.new.room }
+    {
+        let plan = know(self.alloc, self.drawn.as_slice(), gtin, length, serials)?;
+        self.make_room(plan.serials.len())?;
+        Ok(plan)
+    }
+
+    /// Draws what was planned. It takes no memory.
+    pub fn commit_draw(&mut self, plan: DrawPlan)
+        requires made_for { IsPlanFor self.old.drawn plan }
+        requires room { HasRoomFor self.old plan }
+        ensures drawn { self.new.drawn ≡ self.old.drawn ++ drawn_for plan.gtin plan.serials }
+        ensures own { had_of plan.gtin self.new.drawn ≡ had_of plan.gtin self.old.drawn ++ plan.serials }
+        ensures others { (gtin : List ℕ) → gtin ≢ plan.gtin → had_of gtin self.new.drawn ≡ had_of gtin self.old.drawn }
+        ensures once { DrawnOnce self.new.drawn }
+        ensures room { self.new.room + count_of plan.serials ≡ self.old.room }
+    {
+        let count = plan.serials.len();
+        append(&mut self.drawn, plan.gtin, &plan.serials);
+        self.room -= count;
+    }
+
+    /// Whether the serial was drawn for the GTIN.
+    pub fn has(&self, gtin: &Gtin, serial: &Text20) -> bool
+        ensures { result ≡ is_among (had_of gtin.now self.now.drawn) serial.now }
+    {
+        was_drawn(self.drawn.as_slice(), gtin, serial)
+    }
+
+    /// How many serials were drawn for the GTIN.
+    #[tactic(auto, using(crate::proofs::Holding::drawn_count_is))]
+    pub fn drawn(&self, gtin: &Gtin) -> u32
+        ensures count { result ≡ drawn_count gtin.now self.now.drawn }
+        ensures once { DrawnOnce self.now.drawn }
+    {
+        count_drawn(self.drawn.as_slice(), gtin) as u32
+    }
+
+    /// Makes room for so many more serials.
+    fn make_room(&mut self, more: usize) -> Result<(), Memory>
+        ensures drawn { self.new.drawn ≡ self.old.drawn }
+        ensures ok { OnOk result (more ≤ self.new.room) }
+        ensures kept { self.old.room ≤ self.new.room }
+    {
+        match self.drawn.reserve(more) {
+            Ok(()) => {
+                self.room = self.room.max(more);
+                Ok(())
+            }
+            Err(_) => Err(Memory),
+        }
+    }
+}
