@@ -1,0 +1,16 @@
+-- What contracts see of a site.
+use Rattle.std.specs.Prelude.{ℕ, List}
+use Rattle.deed_words.specs.Setups.{Setup}
+use Rattle.deed_words.specs.World.{World}
+use Rattle.deed_words.specs.declared.entry.Entry.{Entry}
+
+-- the world that lists hold, and for how many more batches there is room
+pub record Held : Type 0 where
+  pub world : World
+  pub room : ℕ
+
+-- a site: its setup, its history, and for how many more entries there is room
+pub record View : Type 0 where
+  pub setup : Setup
+  pub history : List Entry
+  pub room : ℕ

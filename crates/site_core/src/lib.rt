@@ -1,0 +1,14 @@
+//! The site: what it keeps, and the next entry of its history, which is planned and then committed.
+#![tactic(auto)]
+
+mod lists;
+mod order;
+mod planned;
+mod rows;
+mod site;
+mod stations;
+
+pub use order::is_built;
+pub use planned::Planned;
+pub use site::Site;
+pub use stations::station_of;
