@@ -1,0 +1,96 @@
+use Rattle.std.proofs.Common.{◌≡◌, ◌++◌, [], arith, ◌∙◌, refl, subst}
+use Rattle.std.specs.Io.KnownBytes.{IsAtEnd}
+use Rattle.std.proofs.lemmas.Result.{err_from_is_err_and}
+use Rattle.packsite.specs.Limits.{input_limit}
+use Rattle.deed_words.specs.Setups.{Setup}
+use Rattle.deed_words.specs.History.{IsLawful}
+use Rattle.packsite.specs.Script.{Told}
+use Rattle.packsite.proofs.Answering.{lawful_none, stands_none}
+use Rattle.packsite.proofs.Going.{start, heard, went_on, no_memory, next_failed, finished, gave_up, if_true, if_false, some_more, nearer}
+use Rattle.packsite.proofs.run.run.Goals as goal
+
+pub returns-in_err-site-clause-ran : goal.returns-in_err-site-clause-ran
+returns-in_err-site-clause-ran g c =
+    let p = err_from_is_err_and c.from_residual.result c.from_residual.ensures.1 in
+    rw (p.1, p.2) (no_memory c.args.setup (Unit {0}) _ _ [] 0 [] _ _ (start c.args.setup _ [] 0 [] _ refl refl refl (lawful_none c.args.setup)))
+
+pub returns-in_err-lines-clause-ran : goal.returns-in_err-lines-clause-ran
+returns-in_err-lines-clause-ran g c =
+    let p = err_from_is_err_and c.from_residual-in_err-lines.result c.from_residual-in_err-lines.ensures.1 in
+    rw (p.1, p.2) (no_memory c.args.setup (Unit {0}) _ _ [] 0 [] _ _ (start c.args.setup _ [] 0 [] _ refl refl refl (lawful_none c.args.setup)))
+
+pub lines-init : goal.lines-init
+lines-init g c =
+    let site = c.in_ok-site.ensures in
+    let stands = stands_none c.args.setup c.in_ok-site.site.setup c.in_ok-site.site.history site.0 site.1 in
+    record {
+      going = start c.args.setup _ c.in_ok-lines.lines.pending c.in_ok-lines.lines.taken c.in_ok-site.site.history _ c.in_ok-lines.ensures.0 c.in_ok-lines.ensures.1 site.1 (subst (λ (s : Setup). IsLawful s c.in_ok-site.site.history) site.0 stands.lawful);
+      setup = site.0;
+      stands = stands;
+      within = omega (arith, c.in_ok-lines.ensures.1);
+      read_faults = refl;
+      write_faults = refl;
+    }
+
+pub returns-in_err-line-clause-ran : goal.returns-in_err-line-clause-ran
+returns-in_err-line-clause-ran g c =
+    let e = c.in_err-line.ensures.line in
+    let p = err_from_is_err_and c.from_residual-in_err-line.result c.from_residual-in_err-line.ensures.1 in
+    rw (p.1, p.2) (next_failed c.args.setup (Unit {0}) c.in_err-line.field-0.0 _ _ (c.lines.lines.pending ++ e.0) c.next.new.self _ c.lines.site.history _ _
+    (heard c.args.setup _ _ _ c.lines.lines.pending e.0 c.lines.lines.taken c.next.new.self.taken c.lines.site.history _ _ c.lines.invariant.going e.1 refl refl e.2.0) e.2.1)
+
+pub returns-in_err-serve_line-clause-ran : goal.returns-in_err-serve_line-clause-ran
+returns-in_err-serve_line-clause-ran g c =
+    let e = c.in_ok-line.ensures.line in
+    let line = e.2.1.0 in
+    let mid : Told = record { left = g.I.Source.left c.next.new.input; held = g.O.Sink.held c.lines.out; words = g.W.Words.words_left c.lines.words } in
+    let now : Told = record { left = g.I.Source.left c.next.new.input; held = g.O.Sink.held c.serve_line.new.out; words = g.W.Words.words_left c.serve_line.new.words } in
+    let known = c.lines.lines.pending ++ e.0 in
+    let going = heard c.args.setup _ _ mid c.lines.lines.pending e.0 c.lines.lines.taken c.next.new.self.taken c.lines.site.history _ _ c.lines.invariant.going e.1 refl refl e.2.0 in
+    let lawful = subst (λ (s : Setup). IsLawful s c.serve_line.new.site.history) (c.serve_line.ensures.setup ∙ c.lines.invariant.setup) c.serve_line.ensures.stands.lawful in
+    let serves = rw (c.lines.invariant.setup) at (c.in_err-serve_line.ensures.serves line.text line.held) in
+    let p = err_from_is_err_and c.from_residual-in_err-serve_line.result c.from_residual-in_err-serve_line.ensures.1 in
+    let more = some_more c.in_ok-line.field-0.is_last known line.text c.next.new.self.pending _ (IsAtEnd (g.I.Source.left c.next.new.input)) line.cut e.2.1.1 in
+    rw (p.1, p.2) (gave_up c.args.setup (Unit {0}) c.in_err-serve_line.field-0.0 _ mid now line.text known more.0 c.next.new.self.taken c.lines.site.history c.serve_line.new.site.history _ _ _ going more.1 more.2 line.one refl lawful serves)
+
+pub returns-then-is_last-clause-ran : goal.returns-then-is_last-clause-ran
+returns-then-is_last-clause-ran g c =
+    let e = c.in_ok-line.ensures.line in
+    let line = e.2.1.0 in
+    let mid : Told = record { left = g.I.Source.left c.next.new.input; held = g.O.Sink.held c.lines.out; words = g.W.Words.words_left c.lines.words } in
+    let now : Told = record { left = g.I.Source.left c.next.new.input; held = g.O.Sink.held c.serve_line.new.out; words = g.W.Words.words_left c.serve_line.new.words } in
+    let known = c.lines.lines.pending ++ e.0 in
+    let going = heard c.args.setup _ _ mid c.lines.lines.pending e.0 c.lines.lines.taken c.next.new.self.taken c.lines.site.history _ _ c.lines.invariant.going e.1 refl refl e.2.0 in
+    let lawful = subst (λ (s : Setup). IsLawful s c.serve_line.new.site.history) (c.serve_line.ensures.setup ∙ c.lines.invariant.setup) c.serve_line.ensures.stands.lawful in
+    let serves = rw (c.lines.invariant.setup) at (c.in_ok-serve_line.ensures.serves line.text line.held) in
+    let last = c.if-is_last.true in
+    let cut = if_true c.in_ok-line.field-0.is_last _ _ last line.cut in
+    let room = if_true c.in_ok-line.field-0.is_last _ _ last e.2.1.1 in
+    finished c.args.setup (Unit {0}) (tt {0}) _ mid now line.text known c.next.new.self.pending c.next.new.self.taken c.lines.site.history c.serve_line.new.site.history _ _ _ going cut.0 line.one refl lawful room.0 room.1 serves
+
+pub lines-smaller : goal.lines-smaller
+lines-smaller g c =
+    let e = c.in_ok-line.ensures.line in
+    let line = e.2.1.0 in
+    let cut = if_false c.in_ok-line.field-0.is_last _ _ c.if-is_last.false line.cut in
+    nearer c.lines.lines.pending e.0 line.text c.next.new.self.pending c.lines.lines.taken c.next.new.self.taken input_limit cut e.2.0 c.in_ok-line.ensures.within
+
+pub lines-preserved : goal.lines-preserved
+lines-preserved g c =
+    let e = c.in_ok-line.ensures.line in
+    let line = e.2.1.0 in
+    let mid : Told = record { left = g.I.Source.left c.next.new.input; held = g.O.Sink.held c.lines.out; words = g.W.Words.words_left c.lines.words } in
+    let now : Told = record { left = g.I.Source.left c.next.new.input; held = g.O.Sink.held c.serve_line.new.out; words = g.W.Words.words_left c.serve_line.new.words } in
+    let known = c.lines.lines.pending ++ e.0 in
+    let going = heard c.args.setup _ _ mid c.lines.lines.pending e.0 c.lines.lines.taken c.next.new.self.taken c.lines.site.history _ _ c.lines.invariant.going e.1 refl refl e.2.0 in
+    let lawful = subst (λ (s : Setup). IsLawful s c.serve_line.new.site.history) (c.serve_line.ensures.setup ∙ c.lines.invariant.setup) c.serve_line.ensures.stands.lawful in
+    let serves = rw (c.lines.invariant.setup) at (c.in_ok-serve_line.ensures.serves line.text line.held) in
+    let cut = if_false c.in_ok-line.field-0.is_last _ _ c.if-is_last.false line.cut in
+    record {
+      going = went_on c.args.setup (Unit {0}) (tt {0}) _ mid now line.text known c.next.new.self.pending c.next.new.self.taken c.lines.site.history c.serve_line.new.site.history _ _ _ going cut line.one refl lawful serves;
+      setup = c.serve_line.ensures.setup ∙ c.lines.invariant.setup;
+      stands = c.serve_line.ensures.stands;
+      within = c.in_ok-line.ensures.within;
+      read_faults = c.in_ok-line.ensures.cause.kept ∙ c.lines.invariant.read_faults;
+      write_faults = c.in_ok-serve_line.ensures.write.kept ∙ c.lines.invariant.write_faults;
+    }

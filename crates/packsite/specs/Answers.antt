@@ -1,0 +1,75 @@
+-- What a line is answered, and what it does to the history.
+use Rattle.std.specs.Prelude.{◌≡◌, ◌≤◌, ◌+◌, ℕ, Bool, true, false, List, [], ◌∷◌, ◌++◌, Option, Some, None, length, codes}
+use Rattle.serde_json.specs.Written.{compact_text}
+use Rattle.deed_words.specs.declared.deed.Deed.{Deed}
+use Rattle.deed_words.specs.declared.entry.Ask.{Ask}
+use Rattle.deed_words.specs.declared.entry.Entry.{Entry}
+use Rattle.deed_words.specs.declared.reply.Reply.{Reply}
+use Rattle.deed_words.specs.declared.rule.Rule.{Rule}
+use Rattle.deed_words.specs.declared.rule.Rule.TheVariants.{UnknownBatch}
+use Rattle.deed_words.specs.Setups.{Setup}
+use Rattle.deed_words.specs.Rules.{broken}
+use Rattle.deed_words.specs.Replies.{reply_to}
+use Rattle.deed_words.specs.History.{own, world_of}
+use Rattle.deed_json.specs.Replies.{reply_data, NamesStationsOf}
+use Rattle.site_core.specs.Plans.{is_built, entry_of}
+use Rattle.packsite.specs.declared.answer.Answer.{Answer}
+use Rattle.packsite.specs.declared.answer.Answer.TheVariants.{NotBuilt, Replied, Memory}
+use Rattle.packsite.specs.Limits.{line_limit}
+use Rattle.packsite.specs.Requests.{ask_of}
+
+-- no rule is broken, or the one that is answered already: that no batch has the name
+abbrev pub is_answered : Option Rule → Bool
+is_answered None = true
+is_answered (Some UnknownBatch) = true
+is_answered (Some rule) = false
+
+-- The line is answered by the site: it is short, it reads as a request of a deed that is built, its number is the
+-- station's next one, and the first rule that it breaks, if there is one, is answered.
+pub record IsServed (site : Setup) (history : List Entry) (line : List ℕ) (ask : Ask) : Type 0 where
+  pub short : length line ≤ line_limit
+  pub read : ask_of site line ≡ Some ask
+  pub built : is_built ask.deed ≡ true
+  pub next : ask.number ≡ length (own ask.station history) + 1
+  pub answered : is_answered (broken site (world_of site history) ask.station ask.deed) ≡ true
+
+-- the line is answered by no site
+abbrev pub IsUnserved : Setup → List Entry → List ℕ → Type 0
+IsUnserved site history line = (ask : Ask) → IsServed site history line ask → ⊥
+
+-- nothing was taken, and the history stays
+pub record Stays (old : List Entry) (taken : List ℕ) (new : List Entry) : Type 0 where
+  pub none : taken ≡ []
+  pub history : new ≡ old
+
+-- the request became the next entry of the history, and the reply is the one to it
+pub record Replies (site : Setup) (old : List Entry) (line : List ℕ) (reply : Reply) (taken : List ℕ) (new : List Entry) : Type 0 where
+  pub ask : Ask
+  pub served : IsServed site old line ask
+  pub none : taken ≡ []
+  pub reply_is : reply ≡ reply_to site (world_of site old) (entry_of 0 ask 0 [])
+  pub history : new ≡ old ++ entry_of 0 ask 0 [] ∷ []
+
+-- From old, the line may get this answer, take these words and lead to new. Want of memory may come at any time.
+abbrev pub Answers : Setup → List Entry → List ℕ → Answer → List ℕ → List Entry → Type 0
+Answers site old line NotBuilt taken new = IsUnserved site old line × Stays old taken new
+Answers site old line (Replied reply) taken new = Replies site old line reply taken new
+Answers site old line Memory taken new = Stays old taken new
+
+-- the text of an answer: compact JSON
+unfoldable pub answer_text : Setup → Answer → List ℕ
+answer_text site NotBuilt = codes "{\"fault\":\"NotBuilt\",\"ok\":false}"
+answer_text site (Replied reply) = compact_text (reply_data site reply)
+answer_text site Memory = codes "{\"fault\":\"Memory\",\"ok\":false}"
+
+-- an answer tells a fault of the words
+abbrev pub tells_words_fault : Answer → Bool
+tells_words_fault NotBuilt = false
+tells_words_fault (Replied reply) = false
+tells_words_fault Memory = false
+
+-- the stations that the answer names are of the site
+abbrev pub IsPrintable : Setup → Answer → Type 0
+IsPrintable site NotBuilt = Unit {0}
+IsPrintable site (Replied reply) = NamesStationsOf site reply
+IsPrintable site Memory = Unit {0}

@@ -1,0 +1,14 @@
+pub mod Answers
+pub mod Dates
+pub mod Limits
+pub mod Lines
+pub mod Newline
+pub mod Puts
+pub mod Reading
+pub mod Requests
+pub mod Rules
+pub mod Script
+pub mod Site
+pub mod Serving
+pub mod Standing
+pub mod Status

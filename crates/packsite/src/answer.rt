@@ -1,0 +1,122 @@
+//! Answering one line.
+ghost use Rattle.std.specs.Prelude.{◌≡◌, ◌≤◌, ◌<◌, ◌++◌, ◌∷◌, [], List, ℕ, Some, length, IfOk, string_bytes};
+ghost use Rattle.outside.specs.Causes.{HasCauseIf};
+ghost use Rattle.outside.specs.Devices.{Takes};
+ghost use Rattle.packsite.specs.Limits.{line_limit};
+ghost use Rattle.packsite.specs.Lines.{IsHeld};
+ghost use Rattle.packsite.specs.Newline.{newline};
+ghost use Rattle.packsite.specs.Requests.{ask_of};
+ghost use Rattle.packsite.specs.Rules.{rule_of};
+ghost use Rattle.packsite.specs.Standing.{Stands};
+ghost use Rattle.packsite.specs.Answers.{Answers, IsPrintable, answer_text, is_answered, tells_words_fault};
+
+use crate::lines::Line;
+use crate::request::read_ask;
+use deed_json::reply_text;
+use deed_words::{Ask, Reply, Rule, Setup};
+use gs1_keys::Memory;
+use outside::Words;
+use site_core::{Site, is_built};
+use std::alloc::Global;
+
+/// What comes of a line.
+#[derive(Debug, Drop)]
+pub enum Answer {
+    /// The line is answered by nothing that is built.
+    NotBuilt,
+    /// The request was kept, with this reply.
+    Replied(Reply),
+    /// Memory is wanting. Nothing was done.
+    Memory,
+}
+
+/// Answers a line, by a step of the site where it reads as a request.
+pub fn answer_line<W: Words>(alloc: Global, site: &mut Site, line: &Line, words: &mut W) -> Answer
+    requires stands { Stands site.old.setup site.old.history }
+    ensures answer { (text : List ℕ) → IsHeld line.now text
+        → Takes (W.words_left words.old) (W.words_left words.new) (λ taken. Answers site.old.setup site.old.history text result taken site.new.history) }
+    ensures cause { HasCauseIf (tells_words_fault result) (W.word_faults words.old) (W.word_faults words.new) }
+    ensures setup { site.new.setup ≡ site.old.setup }
+    ensures stands { Stands site.new.setup site.new.history }
+    ensures printable { IsPrintable site.new.setup result }
+{
+    let Line::Held(bytes) = line else {
+        return Answer::NotBuilt;
+    };
+    match read_ask(alloc, site.setup(), bytes) {
+        Ok(Some(ask)) => answer_ask(site, ask),
+        Ok(None) => Answer::NotBuilt,
+        Err(_) => Answer::Memory,
+    }
+}
+
+/// Answers a request of a station of the setup.
+fn answer_ask(site: &mut Site, ask: Ask) -> Answer
+    requires stands { Stands site.old.setup site.old.history }
+    requires station { ask.station < length site.old.setup.stations }
+    ensures answer { (line : List ℕ) → length line ≤ line_limit → ask_of site.old.setup line ≡ Some ask
+        → Answers site.old.setup site.old.history line result [] site.new.history }
+    ensures setup { site.new.setup ≡ site.old.setup }
+    ensures stands { Stands site.new.setup site.new.history }
+    ensures printable { IsPrintable site.new.setup result }
+{
+    if !is_built(&ask.deed) {
+        return Answer::NotBuilt;
+    }
+    if !site.is_next(ask.station, ask.number) {
+        return Answer::NotBuilt;
+    }
+    let Ok(planned) = site.plan(0, ask, 0) else {
+        return Answer::Memory;
+    };
+    if !is_answered(planned.reply()) {
+        return Answer::NotBuilt;
+    }
+    let Ok(reply) = planned.reply().copy() else {
+        return Answer::Memory;
+    };
+    site.commit(planned);
+    Answer::Replied(reply)
+}
+
+/// Whether the reply is one that is told: an acceptance, or that no batch has the name.
+fn is_answered(reply: &Reply) -> bool
+    ensures { result ≡ is_answered (rule_of reply.now) }
+{
+    match reply {
+        Reply::Accepted(_) => true,
+        Reply::Refused(Rule::UnknownBatch) => true,
+        Reply::Refused(_) => false,
+    }
+}
+
+/// The answer as a line: compact JSON and a newline.
+#[tactic(auto, unfolding(crate::specs::Answers::answer_text))]
+pub fn print(alloc: Global, setup: &Setup, answer: &Answer) -> Result<String, Memory>
+    requires { IsPrintable setup.now answer.now }
+    ensures { IfOk result (λ line. string_bytes line ≡ answer_text setup.now answer.now ++ newline ∷ []) }
+{
+    match answer {
+        Answer::NotBuilt => fixed(alloc, "{\"fault\":\"NotBuilt\",\"ok\":false}\n"),
+        Answer::Memory => fixed(alloc, "{\"fault\":\"Memory\",\"ok\":false}\n"),
+        Answer::Replied(reply) => ended(reply_text(alloc, reply, setup)?),
+    }
+}
+
+/// A line that is always the same.
+fn fixed(alloc: Global, line: &str) -> Result<String, Memory>
+    ensures { IfOk result (λ text. string_bytes text ≡ line.now) }
+{
+    String::from_str(alloc, line).map_err(|_| Memory)
+}
+
+/// The text with a newline behind it.
+fn ended(text: String) -> Result<String, Memory>
+    ensures { IfOk result (λ line. string_bytes line ≡ string_bytes text ++ newline ∷ []) }
+{
+    let mut line = text;
+    match line.push('\n') {
+        Ok(()) => Ok(line),
+        Err(_) => Err(Memory),
+    }
+}

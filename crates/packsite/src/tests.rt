@@ -1,0 +1,266 @@
+ghost use Rattle.std.specs.Prelude.{Some};
+
+use crate::top::site_top;
+use outside::{Failed, MemorySink, MemorySource, MemoryWords, Sink, Source};
+use std::test::Fail;
+
+const ORDER: &[u8] =
+    b"{\"station\":\"P1\",\"number\":1,\"deed\":{\"do\":\"order\",\"batch\":\"B6\",\"gtin\":\"80614141123458\",\"lot\":\"LOT6\",\"expiry\":\"2027-12-31\",\"quantity\":2,\"case\":2,\"pallet\":0}}\n";
+
+const NEW: &[u8] = b"{\"already\":0,\"new\":1,\"ok\":true}\n";
+
+const NOT_BUILT: &[u8] = b"{\"fault\":\"NotBuilt\",\"ok\":false}\n";
+
+/// Runs the program over lines, with the calls of input and output that fail, and gives its status and what it put.
+fn run_on(
+    rt: &HostRuntime,
+    input: &[u8],
+    failing_takes: &[u64],
+    failing_puts: &[u64],
+) -> Result<(u8, Vec<u8>), Fail> {
+    let alloc = rt.alloc();
+    let args = [String::from_str(alloc, "run")?];
+    let mut source = MemorySource::new(input.to_vec(alloc)?, failing_takes.to_vec(alloc)?);
+    let mut sink = MemorySink::new(alloc, failing_puts.to_vec(alloc)?);
+    let mut words = MemoryWords::new(Vec::new(alloc), Vec::new(alloc));
+    let status = site_top(alloc, &args, &mut source, &mut sink, &mut words);
+    Ok((status, sink.bytes().to_vec(alloc)?))
+}
+
+/// The texts one after the other.
+fn joined(rt: &HostRuntime, texts: &[&[u8]]) -> Result<Vec<u8>, Fail> {
+    let mut all = Vec::new(rt.alloc());
+    for text in texts {
+        all.extend_from_slice(text)?;
+    }
+    Ok(all)
+}
+
+/// The order as request 1, with one text of it replaced.
+fn changed(rt: &HostRuntime, from: &str, to: &str) -> Result<Vec<u8>, Fail> {
+    let Ok(text) = str::from_utf8(ORDER) else {
+        return Err(Fail::from("no text"));
+    };
+    Ok(text.replace(rt.alloc(), from, to)?.into_bytes())
+}
+
+#[test]
+fn an_order_is_answered(rt: HostRuntime) -> Result<(), Fail> {
+    let (status, put) = run_on(&rt, ORDER, &[], &[])?;
+    assert_eq!(rt; put.as_slice(), NEW);
+    assert_eq!(rt; status, 0);
+    let (status, put) = run_on(&rt, b"", &[], &[])?;
+    assert_eq!(rt; put.as_slice(), b"".as_slice());
+    assert_eq!(rt; status, 0);
+    Ok(())
+}
+
+#[test]
+fn lines_are_answered_in_order(rt: HostRuntime) -> Result<(), Fail> {
+    let again = changed(&rt, "\"number\":1", "\"number\":2")?;
+    let other = changed(&rt, "\"number\":1", "\"number\":3")?;
+    let mut last = changed(&rt, "\"number\":1", "\"number\":3")?;
+    last.pop();
+    let input = joined(&rt, &[ORDER, b"\n", &again, b"\n\n", &last])?;
+    let (status, put) = run_on(&rt, &input, &[], &[])?;
+    let already: &[u8] = b"{\"already\":1,\"new\":0,\"ok\":true}\n";
+    assert_eq!(rt; put, joined(&rt, &[NEW, already, already])?);
+    assert_eq!(rt; status, 0);
+    // what isn't answered isn't kept: the number stays the next one
+    let input = joined(&rt, &[b"{\n", ORDER, b"\r\n", &again, &other, &other])?;
+    let (status, put) = run_on(&rt, &input, &[], &[])?;
+    assert_eq!(rt;
+        put,
+        joined(
+            &rt,
+            &[NOT_BUILT, NEW, NOT_BUILT, already, already, NOT_BUILT]
+        )?
+    );
+    assert_eq!(rt; status, 0);
+    Ok(())
+}
+
+/// Whether the line is answered by NotBuilt, at a site that has the batch B6.
+fn is_unanswered(rt: &HostRuntime, line: &[u8]) -> Result<bool, Fail> {
+    let input = joined(rt, &[ORDER, line, b"\n"])?;
+    let (status, put) = run_on(rt, &input, &[], &[])?;
+    Ok(status == 0 && put == joined(rt, &[NEW, NOT_BUILT])?)
+}
+
+/// The same of the order as request 2, with one text of it replaced.
+fn is_refused(rt: &HostRuntime, from: &str, to: &str) -> Result<bool, Fail> {
+    let Ok(text) = str::from_utf8(ORDER) else {
+        return Err(Fail::from("no text"));
+    };
+    let next = text.replace(rt.alloc(), "\"number\":1", "\"number\":2")?;
+    is_unanswered(rt, next.replace(rt.alloc(), from, to)?.as_bytes())
+}
+
+#[test]
+fn each_cause_of_not_built(rt: HostRuntime) -> Result<(), Fail> {
+    assert!(rt; is_unanswered(&rt, b"{")?);
+    assert!(rt; is_unanswered(&rt, b"[]")?);
+    assert!(rt; is_unanswered(&rt, b"\xff")?);
+    assert!(rt; is_refused(&rt, "P1", "X")?);
+    assert!(rt; is_refused(&rt, "\"P1\"", "1")?);
+    assert!(rt; is_refused(&rt, "\"number\":2", "\"number\":2.0")?);
+    assert!(rt; is_refused(&rt, "\"number\":2", "\"number\":1")?);
+    assert!(rt; is_refused(&rt, "\"number\":2", "\"number\":3")?);
+    assert!(rt; is_refused(&rt, "\"number\":2", "\"number\":0")?);
+    assert!(rt; is_refused(&rt, "\"deed\"", "\"deeds\"")?);
+    assert!(rt; is_refused(&rt, "\"order\"", "\"close\"")?);
+    assert!(rt; is_refused(&rt, "\"do\":\"order\",", "")?);
+    assert!(rt; is_refused(&rt, "\"lot\":\"LOT6\",", "")?);
+    assert!(rt; is_refused(&rt, "LOT6", "LOT678901234567890123")?);
+    assert!(rt; is_refused(&rt, "LOT6", "LOT 6")?);
+    assert!(rt; is_refused(&rt, "80614141123458", "80614141123459")?);
+    assert!(rt; is_refused(&rt, "2027-12-31", "2027-12")?);
+    assert!(rt; is_refused(&rt, "2027-12-31", "2027-02-29")?);
+    assert!(rt; is_refused(&rt, "2027-12-31", "2100-01-01")?);
+    assert!(rt; is_refused(&rt, "\"quantity\":2", "\"quantity\":0")?);
+    assert!(rt; is_refused(&rt, "\"quantity\":2", "\"quantity\":1000001")?);
+    assert!(rt; is_refused(&rt, "\"case\":2", "\"case\":1001")?);
+    assert!(rt; is_refused(&rt, "\"pallet\":0", "\"pallet\":1001")?);
+    // a role, a product that isn't the site's, and another order of the same batch
+    assert!(rt; is_refused(&rt, "\"P1\",\"number\":2", "\"L1\",\"number\":1")?);
+    assert!(rt; is_refused(&rt, "80614141123458", "00000000000000")?);
+    assert!(rt; is_refused(&rt, "\"quantity\":2", "\"quantity\":3")?);
+    assert!(rt;
+        is_unanswered(
+            &rt,
+            b"{\"station\":\"P1\",\"number\":2,\"deed\":{\"do\":\"draw\",\"batch\":\"B6\",\"count\":2}}"
+        )?
+    );
+    Ok(())
+}
+
+#[test]
+fn a_long_line_is_answered_and_read_to_its_end(rt: HostRuntime) -> Result<(), Fail> {
+    let mut line = vec![in rt.alloc(); b' '; 1_048_577]?;
+    line.push(b'\n')?;
+    let (status, put) = run_on(&rt, &joined(&rt, &[&line, ORDER])?, &[], &[])?;
+    assert_eq!(rt; put, joined(&rt, &[NOT_BUILT, NEW])?);
+    assert_eq!(rt; status, 0);
+    // a request of 1,048,576 bytes is read
+    let mut line = vec![in rt.alloc(); b' '; 1_048_577 - ORDER.len()]?;
+    line.extend_from_slice(ORDER)?;
+    let (status, put) = run_on(&rt, &line, &[], &[])?;
+    assert_eq!(rt; put.as_slice(), NEW);
+    assert_eq!(rt; status, 0);
+    Ok(())
+}
+
+#[test]
+fn faults_have_their_status(rt: HostRuntime) -> Result<(), Fail> {
+    // the second take fails, in the middle of a line
+    let mut long = vec![in rt.alloc(); b' '; 4_000]?;
+    long.extend_from_slice(ORDER)?;
+    let input = joined(&rt, &[ORDER, &long])?;
+    let (status, put) = run_on(&rt, &input, &[2], &[])?;
+    assert_eq!(rt; put, joined(&rt, &[NEW, b"input fault\n"])?);
+    assert_eq!(rt; status, 7);
+    let (status, put) = run_on(&rt, &input, &[], &[1])?;
+    assert_eq!(rt; put.as_slice(), b"".as_slice());
+    assert_eq!(rt; status, 8);
+    // the fault's line can't be put either
+    let (status, put) = run_on(&rt, &input, &[1], &[1])?;
+    assert_eq!(rt; put.as_slice(), b"".as_slice());
+    assert_eq!(rt; status, 7);
+    Ok(())
+}
+
+/// Runs the program with these words of its command line.
+fn with_words(rt: &HostRuntime, args: &[String]) -> Result<(u8, Vec<u8>), Fail> {
+    let alloc = rt.alloc();
+    let mut source = MemorySource::new(ORDER.to_vec(alloc)?, Vec::new(alloc));
+    let mut sink = MemorySink::new(alloc, Vec::new(alloc));
+    let mut words = MemoryWords::new(Vec::new(alloc), Vec::new(alloc));
+    let status = site_top(alloc, args, &mut source, &mut sink, &mut words);
+    Ok((status, sink.bytes().to_vec(alloc)?))
+}
+
+#[test]
+fn other_words_are_refused(rt: HostRuntime) -> Result<(), Fail> {
+    let alloc = rt.alloc();
+    let run = String::from_str(alloc, "run")?;
+    let twice = [
+        String::from_str(alloc, "run")?,
+        String::from_str(alloc, "run")?,
+    ];
+    let upper = [String::from_str(alloc, "Run")?];
+    for args in [&[], twice.as_slice(), upper.as_slice()] {
+        let (status, put) = with_words(&rt, args)?;
+        assert_eq!(rt; put.as_slice(), b"bad words\n".as_slice());
+        assert_eq!(rt; status, 2);
+    }
+    let (status, put) = with_words(&rt, &[run])?;
+    assert_eq!(rt; put.as_slice(), NEW);
+    assert_eq!(rt; status, 0);
+    Ok(())
+}
+
+/// A source that gives one byte at a time.
+#[derive(Drop)]
+struct Drops<'a> {
+    left: &'a [u8],
+}
+
+impl Source for Drops<'_> {
+    ghost left = { λ s. Some s.left.now };
+
+    ghost read_faults = { λ _. 0 };
+
+    fn take(&mut self, piece: &mut [u8]) -> Result<usize, Failed> {
+        match self.left.split_first() {
+            None => Ok(0),
+            Some((first, rest)) => {
+                piece[0] = *first;
+                self.left = rest;
+                Ok(1)
+            }
+        }
+    }
+}
+
+/// A sink that takes one byte at a time.
+#[derive(Drop)]
+struct Slow<'a> {
+    to: &'a mut Vec<u8>,
+    failed: u64,
+}
+
+impl Sink for Slow<'_> {
+    ghost held = { λ s. Some s.to.now.items };
+
+    ghost write_faults = { λ s. s.failed };
+
+    fn put(&mut self, piece: &[u8]) -> Result<usize, Failed> {
+        match self.to.push(piece[0]) {
+            Ok(()) => Ok(1),
+            Err(_) => {
+                self.failed = self.failed.saturating_add(1);
+                Err(Failed)
+            }
+        }
+    }
+}
+
+#[test]
+fn pieces_may_be_small(rt: HostRuntime) -> Result<(), Fail> {
+    let alloc = rt.alloc();
+    let args = [String::from_str(alloc, "run")?];
+    let input = joined(&rt, &[ORDER, b"\nzz"])?;
+    let mut put = Vec::new(alloc);
+    let mut source = Drops {
+        left: input.as_slice(),
+    };
+    let mut sink = Slow {
+        to: &mut put,
+        failed: 0,
+    };
+    let mut words = MemoryWords::new(Vec::new(alloc), Vec::new(alloc));
+    let status = site_top(alloc, &args, &mut source, &mut sink, &mut words);
+    assert_eq!(rt; status, 0);
+    assert_eq!(rt; put, joined(&rt, &[NEW, NOT_BUILT])?);
+    Ok(())
+}
