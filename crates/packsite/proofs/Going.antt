@@ -23,6 +23,7 @@ use Rattle.packsite.specs.Puts.{IsPart}
 use Rattle.packsite.specs.Answers.{Answers, answer_text, tells_words_fault}
 use Rattle.packsite.specs.Script.{Exchange, exchange_text, IsLineEnd, Run, Talk, Script, AnswersWhole, StopsInside, Ended, Told, Carries, Ran}
 use Rattle.packsite.specs.Serving.{Serves, ServesOrPasses}
+use Rattle.packsite.proofs.Limit.{limit_told}
 
 pub record Going (site : Setup) (old new : Told) (known : List ℕ) (size : ℕ) (history : List Entry) (faults_old faults_new : ℕ) : Type 0 where
   pub talk : Talk
@@ -189,7 +190,7 @@ went_on site T done old mid new text known rest size history history' before fau
 ran : (site : Setup) (T : Type 0) (old new : Told) (size : ℕ) (known : List ℕ) (history : List Entry) (before now : ℕ) (result : Result T Fault)
     → (g : Going site old new known size history before now) → Ended site result (IsAtEnd new.left) g.talk → (talk : Talk) × Ran {T = T} site old new before now result talk
 ran site T old new size known history before now result g ended =
-    (g.talk, record { carries = g.carries; ended = ended; lawful = subst (IsLawful site) (sym g.left) g.lawful; counted = g.faults })
+    (g.talk, record { carries = g.carries; ended = ended; limit = limit_told T site result (IsAtEnd new.left) g.talk ended; lawful = subst (IsLawful site) (sym g.left) g.lawful; counted = g.faults })
 
 -- all whole lines are answered, and what is known has no newline
 whole : (site : Setup) (old new : Told) (known : List ℕ) (size : ℕ) (history : List Entry) (before now : ℕ) → (g : Going site old new known size history before now) → HasNoNewline known → AnswersWhole site g.talk
@@ -228,6 +229,7 @@ finished site T done old mid new text known rest size history history' before fa
           taken = subst (λ (h : Option (List ℕ)). Consumes old.words h t.taken) (sym p.words) g.carries.taken;
         };
         ended = (record { lines = g.lines; rest = text; cuts = cuts; script = script_empty site g.lines text t empty g.script }, omega (arith, g.counted), end);
+        limit = λ full w. absurd (omega (arith, g.counted, room, full));
         lawful = subst (IsLawful site) (sym g.left) g.lawful;
         counted = subst (λ n. RoseBy (count_by (λ y. tells_words_fault y.answer) t.exchanges) before n) (sym p.faults) g.faults;
       },
@@ -250,14 +252,19 @@ finished site T done old mid new text known rest size history history' before fa
           omega (arith, g.counted),
           end,
         );
+        limit = λ full w. absurd (omega (arith, g.counted, room, full));
         lawful = lawful;
         counted = told_more t.exchanges p.exchange before faults now g.faults p.cause;
       },
     ))
 
+counted_end : (more : List ℕ) (at_end : Type 0) (n m : ℕ) → n ≡ m → IsLineEnd (at_end × (m < input_limit)) more → IsLineEnd (at_end × (n < input_limit)) more
+counted_end [] at_end n m e ends = let room = ends.1 in (ends.0, omega (arith, room, e))
+counted_end (b ∷ bs) at_end n m e ends = ends
+
 -- the next line took its step, and its answer wasn't put whole
 stopped : (site : Setup) (T : Type 0) (fault : Fault) (old mid new : Told) (text known more part : List ℕ) (size : ℕ) (history history' : List Entry) (before faults now : ℕ)
-    → (g : Going site old mid known size history before faults) → known ≡ text ++ more → IsLineEnd (IsAtEnd new.left) more → is_empty text ≡ false → HasNoNewline text
+    → (g : Going site old mid known size history before faults) → known ≡ text ++ more → IsLineEnd (IsAtEnd new.left × (size < input_limit)) more → is_empty text ≡ false → HasNoNewline text
     → (s : Serves {T = T} site history text mid.words new.words mid.held new.held faults now (Err fault) history') → s.put ≡ part → IsPart part (exchange_text site s.exchange)
     → StopsInside site (IsAtEnd new.left) (record { read = g.talk.read; put = g.talk.put ++ part; taken = g.talk.taken ++ s.exchange.taken; exchanges = g.talk.exchanges; history = history' })
 stopped site T fault old mid new text known more part size history history' before faults now g cut ends some one s e short =
@@ -271,7 +278,7 @@ stopped site T fault old mid new text known more part size history history' befo
       whole = g.whole ∙ ap (λ (xs : List ℕ). flat_map ended g.lines ++ xs) (cut ∙ ap (λ (xs : List ℕ). xs ++ more) same);
       each = g.each;
       one = subst HasNoNewline same one;
-      ends = ends;
+      ends = counted_end more (IsAtEnd new.left) (length g.talk.read) size g.counted ends;
       asked = subst (λ (xs : List ℕ). is_empty xs ≡ false) same some;
       script = g.script;
       step = subst (λ (h : List Entry). Answers site h s.exchange.line s.exchange.answer s.exchange.taken history') (sym g.left) (subst (λ (l : List ℕ). Answers site history l s.exchange.answer s.exchange.taken history') same s.step);
@@ -282,7 +289,7 @@ stopped site T fault old mid new text known more part size history history' befo
     }
 
 stopped_ran : (site : Setup) (T : Type 0) (fault : Fault) (old mid new : Told) (text known more : List ℕ) (size : ℕ) (history history' : List Entry) (before faults now : ℕ)
-    → Going site old mid known size history before faults → known ≡ text ++ more → IsLineEnd (IsAtEnd new.left) more → is_empty text ≡ false → HasNoNewline text → new.left ≡ mid.left → IsLawful site history'
+    → Going site old mid known size history before faults → known ≡ text ++ more → IsLineEnd (IsAtEnd new.left × (size < input_limit)) more → is_empty text ≡ false → HasNoNewline text → new.left ≡ mid.left → IsLawful site history'
     → (s : Serves {T = T} site history text mid.words new.words mid.held new.held faults now (Err fault) history') → IsPart s.put (exchange_text site s.exchange)
     → ((talk : Talk) → StopsInside site (IsAtEnd new.left) talk → Ended {T = T} site (Err fault) (IsAtEnd new.left) talk) → (talk : Talk) × Ran {T = T} site old new before now (Err fault) talk
 stopped_ran site T fault old mid new text known more size history history' before faults now g cut ends some one left lawful s short end =
@@ -296,6 +303,7 @@ stopped_ran site T fault old mid new text known more size history history' befor
           taken = Consumes-trans old.words mid.words new.words t.taken s.exchange.taken g.carries.taken s.used;
         };
         ended = end _ (stopped site T fault old mid new text known more s.put size history history' before faults now g cut ends some one s refl short);
+        limit = limit_told T site (Err fault) (IsAtEnd new.left) _ (end _ (stopped site T fault old mid new text known more s.put size history history' before faults now g cut ends some one s refl short));
         lawful = lawful;
         counted = omega (arith, g.faults, later);
       },
@@ -303,7 +311,7 @@ stopped_ran site T fault old mid new text known more size history history' befor
 
 -- the next line's answer couldn't be printed or put
 served_in_part : (site : Setup) (T : Type 0) (fault : Fault) (old mid new : Told) (text known more : List ℕ) (size : ℕ) (history history' : List Entry) (before faults now : ℕ)
-    → Going site old mid known size history before faults → known ≡ text ++ more → IsLineEnd (IsAtEnd new.left) more → is_empty text ≡ false → HasNoNewline text → new.left ≡ mid.left → IsLawful site history'
+    → Going site old mid known size history before faults → known ≡ text ++ more → IsLineEnd (IsAtEnd new.left × (size < input_limit)) more → is_empty text ≡ false → HasNoNewline text → new.left ≡ mid.left → IsLawful site history'
     → Serves {T = T} site history text mid.words new.words mid.held new.held faults now (Err fault) history' → (talk : Talk) × Ran {T = T} site old new before now (Err fault) talk
 served_in_part site T Write old mid new text known more size history history' before faults now g cut ends some one left lawful s =
     stopped_ran site T Write old mid new text known more size history history' before faults now g cut ends some one left lawful s s.answered (λ talk e. e)
@@ -314,7 +322,7 @@ served_in_part site T Read old mid new text known more size history history' bef
 served_in_part site T InputTooLong old mid new text known more size history history' before faults now g cut ends some one left lawful s = absurd s.answered
 
 pub gave_up : (site : Setup) (T : Type 0) (fault : Fault) (old mid new : Told) (text known more : List ℕ) (size : ℕ) (history history' : List Entry) (before faults now : ℕ)
-    → Going site old mid known size history before faults → known ≡ text ++ more → IsLineEnd (IsAtEnd new.left) more → HasNoNewline text → new.left ≡ mid.left → IsLawful site history'
+    → Going site old mid known size history before faults → known ≡ text ++ more → IsLineEnd (IsAtEnd new.left × (size < input_limit)) more → HasNoNewline text → new.left ≡ mid.left → IsLawful site history'
     → ServesOrPasses {T = T} site history text mid.words new.words mid.held new.held faults now (Err fault) history' → (talk : Talk) × Ran {T = T} site old new before now (Err fault) talk
 gave_up site T fault old mid new text known more size history history' before faults now g cut ends one left lawful s =
     by_cases (is_empty text) _ _ ((talk : Talk) × Ran {T = T} site old new before now (Err fault) talk) s
@@ -339,8 +347,8 @@ if_false true P Q e m = absurd (false≢true (sym e))
 
 -- a line and whatever follows it
 pub some_more : (b : Bool) (known text rest : List ℕ) (room at_end : Type 0) → MatchBool b ((known ≡ text) × (rest ≡ [])) (known ≡ text ++ newline ∷ rest) → MatchBool b (room × at_end) ⊤
-    → (more : List ℕ) × (known ≡ text ++ more) × IsLineEnd at_end more
-some_more true known text rest room at_end m e = ([], m.0 ∙ sym (append-nil text), e.1)
+    → (more : List ℕ) × (known ≡ text ++ more) × IsLineEnd (at_end × room) more
+some_more true known text rest room at_end m e = ([], m.0 ∙ sym (append-nil text), (e.1, e.0))
 some_more false known text rest room at_end m e = (newline ∷ rest, m, refl)
 
 -- each line takes a byte at least

@@ -12,9 +12,12 @@ use Rattle.deed_words.specs.Rules.{broken}
 use Rattle.deed_words.specs.Replies.{reply_to}
 use Rattle.deed_words.specs.History.{own, world_of}
 use Rattle.deed_json.specs.Replies.{reply_data, NamesStationsOf}
+use Rattle.deed_words.specs.Names.{Text}
+use Rattle.serde_json.specs.Data.{Data, boolean, number, unsigned, string, object, no_members, member}
+use Rattle.site_core.specs.Draws.{Draws, Spends, Stops}
 use Rattle.site_core.specs.Plans.{is_built, entry_of}
 use Rattle.packsite.specs.declared.answer.Answer.{Answer}
-use Rattle.packsite.specs.declared.answer.Answer.TheVariants.{NotBuilt, Replied, Memory}
+use Rattle.packsite.specs.declared.answer.Answer.TheVariants.{NotBuilt, Replied, WordsFault, WordsSpent, Memory}
 use Rattle.packsite.specs.Limits.{line_limit}
 use Rattle.packsite.specs.Requests.{ask_of}
 
@@ -42,34 +45,63 @@ pub record Stays (old : List Entry) (taken : List ℕ) (new : List Entry) : Type
   pub none : taken ≡ []
   pub history : new ≡ old
 
--- the request became the next entry of the history, and the reply is the one to it
+-- the request, which drew these serials from the words taken, became the next entry of the history, and the reply is
+-- the one to it
 pub record Replies (site : Setup) (old : List Entry) (line : List ℕ) (reply : Reply) (taken : List ℕ) (new : List Entry) : Type 0 where
   pub ask : Ask
+  pub drawn : List Text
   pub served : IsServed site old line ask
-  pub none : taken ≡ []
-  pub reply_is : reply ≡ reply_to site (world_of site old) (entry_of 0 ask 0 [])
-  pub history : new ≡ old ++ entry_of 0 ask 0 [] ∷ []
+  pub draws : Draws site (world_of site old) (broken site (world_of site old) ask.station ask.deed) ask.deed taken drawn
+  pub reply_is : reply ≡ reply_to site (world_of site old) (entry_of 0 ask 0 drawn)
+  pub history : new ≡ old ++ entry_of 0 ask 0 drawn ∷ []
+
+-- a word for the draw couldn't be had, and the history stays
+pub record LacksWords (site : Setup) (old : List Entry) (line : List ℕ) (taken : List ℕ) (new : List Entry) : Type 0 where
+  pub ask : Ask
+  pub served : IsServed site old line ask
+  pub stops : Stops site (world_of site old) (broken site (world_of site old) ask.station ask.deed) ask.deed taken
+  pub history : new ≡ old
+
+-- all the words that the draw may take held only so many new serials, and the history stays
+pub record SpendsWords (site : Setup) (old : List Entry) (line : List ℕ) (found : ℕ) (taken : List ℕ) (new : List Entry) : Type 0 where
+  pub ask : Ask
+  pub served : IsServed site old line ask
+  pub spends : Spends site (world_of site old) (broken site (world_of site old) ask.station ask.deed) ask.deed taken found
+  pub history : new ≡ old
 
 -- From old, the line may get this answer, take these words and lead to new. Want of memory may come at any time.
 abbrev pub Answers : Setup → List Entry → List ℕ → Answer → List ℕ → List Entry → Type 0
 Answers site old line NotBuilt taken new = IsUnserved site old line × Stays old taken new
 Answers site old line (Replied reply) taken new = Replies site old line reply taken new
-Answers site old line Memory taken new = Stays old taken new
+Answers site old line WordsFault taken new = LacksWords site old line taken new
+Answers site old line (WordsSpent found) taken new = SpendsWords site old line found taken new
+Answers site old line Memory taken new = new ≡ old
+
+-- the members of the answer that the words were spent
+abbrev pub spent_data : ℕ → Data
+spent_data found =
+    object (member (codes "fault") (string (codes "WordsSpent")) (member (codes "found") (number (unsigned found)) (member (codes "ok") (boolean false) no_members)))
 
 -- the text of an answer: compact JSON
 unfoldable pub answer_text : Setup → Answer → List ℕ
 answer_text site NotBuilt = codes "{\"fault\":\"NotBuilt\",\"ok\":false}"
 answer_text site (Replied reply) = compact_text (reply_data site reply)
+answer_text site WordsFault = codes "{\"fault\":\"WordsFault\",\"ok\":false}"
+answer_text site (WordsSpent found) = compact_text (spent_data found)
 answer_text site Memory = codes "{\"fault\":\"Memory\",\"ok\":false}"
 
 -- an answer tells a fault of the words
 abbrev pub tells_words_fault : Answer → Bool
 tells_words_fault NotBuilt = false
 tells_words_fault (Replied reply) = false
+tells_words_fault WordsFault = true
+tells_words_fault (WordsSpent found) = false
 tells_words_fault Memory = false
 
 -- the stations that the answer names are of the site
 abbrev pub IsPrintable : Setup → Answer → Type 0
 IsPrintable site NotBuilt = Unit {0}
 IsPrintable site (Replied reply) = NamesStationsOf site reply
+IsPrintable site WordsFault = Unit {0}
+IsPrintable site (WordsSpent found) = Unit {0}
 IsPrintable site Memory = Unit {0}

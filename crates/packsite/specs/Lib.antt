@@ -1,8 +1,10 @@
 pub mod Answers
 pub mod Dates
+pub mod Keeping
 pub mod Limits
 pub mod Lines
 pub mod Newline
+pub mod Promises
 pub mod Puts
 pub mod Reading
 pub mod Requests

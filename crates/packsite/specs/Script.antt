@@ -82,7 +82,7 @@ pub record StopsInside (site : Setup) (at_end : Type 0) (talk : Talk) : Type 0 w
   pub whole : talk.read ≡ flat_map ended lines ++ (next.line ++ more)
   pub each : All HasNoNewline lines
   pub one : HasNoNewline next.line
-  pub ends : IsLineEnd at_end more
+  pub ends : IsLineEnd (at_end × (length talk.read < input_limit)) more
   pub asked : is_empty next.line ≡ false
   pub script : Script site lines front
   pub step : Answers site front.history next.line next.answer next.taken talk.history
@@ -98,6 +98,14 @@ Ended site (Err Read) at_end talk = AnswersWhole site talk × (length talk.read 
 Ended site (Err InputTooLong) at_end talk = AnswersWhole site talk × (length talk.read ≡ input_limit)
 Ended site (Err Write) at_end talk = StopsInside site at_end talk
 Ended site (Err Memory) at_end talk = AnswersFront site talk ⊎ StopsInside site at_end talk
+
+-- the run took all the bytes that it may take, or wanted memory
+abbrev pub IsLimitEnd : {T : Type 0} → Result T Fault → Type 0
+IsLimitEnd (Ok done) = ⊥
+IsLimitEnd (Err Read) = ⊥
+IsLimitEnd (Err InputTooLong) = Unit {0}
+IsLimitEnd (Err Write) = ⊥
+IsLimitEnd (Err Memory) = Unit {0}
 
 -- how often a fault of the words was told
 abbrev pub words_faults : Talk → ℕ
@@ -119,5 +127,6 @@ pub record Carries (old new : Told) (talk : Talk) : Type 0 where
 pub record Ran {T : Type 0} (site : Setup) (old new : Told) (words_faults_old words_faults_new : ℕ) (result : Result T Fault) (talk : Talk) : Type 0 where
   pub carries : Carries old new talk
   pub ended : Ended site result (IsAtEnd new.left) talk
+  pub limit : length talk.read ≡ input_limit → AnswersWhole site talk → IsLimitEnd result
   pub lawful : IsLawful site talk.history
   pub counted : RoseBy (words_faults talk) words_faults_old words_faults_new

@@ -1,5 +1,5 @@
 -- What the program answers at its end.
-use Rattle.std.specs.Prelude.{◌≡◌, ◌⊎◌, ℕ, List, [], ◌∷◌, ◌++◌, codes, Result, Ok, Err}
+use Rattle.std.specs.Prelude.{◌≡◌, ◌⊎◌, ℕ, length, List, [], ◌∷◌, ◌++◌, codes, Result, Ok, Err}
 use Rattle.std.specs.Io.KnownBytes.{Consumes, Appends, IsAtEnd}
 use Rattle.outside.specs.Causes.{Rose, RoseBy}
 use Rattle.deed_words.specs.Setups.{Setup}
@@ -7,7 +7,9 @@ use Rattle.deed_words.specs.History.{IsLawful}
 use Rattle.packsite.specs.declared.fault.Fault.{Fault}
 use Rattle.packsite.specs.declared.fault.Fault.TheVariants.{Read, Write, Memory, InputTooLong}
 use Rattle.packsite.specs.Newline.{newline}
-use Rattle.packsite.specs.Script.{Talk, Told, Ended, words_faults}
+use Rattle.packsite.specs.Promises.{Promises}
+use Rattle.packsite.specs.Limits.{input_limit}
+use Rattle.packsite.specs.Script.{Talk, Told, AnswersWhole, Ended, IsLimitEnd, words_faults}
 
 -- the words of the command line are those of a run
 abbrev pub AreRunWords : List (List ℕ) → Type 0
@@ -19,6 +21,10 @@ status_of (Err Read) = 7
 status_of (Err Write) = 8
 status_of (Err Memory) = 11
 status_of (Err InputTooLong) = 13
+
+-- the statuses of the program
+abbrev pub IsStatus : ℕ → Type 0
+IsStatus n = (n ≡ 0) ⊎ ((n ≡ 2) ⊎ ((n ≡ 7) ⊎ ((n ≡ 8) ⊎ ((n ≡ 11) ⊎ (n ≡ 13)))))
 
 -- what is printed of a fault
 abbrev pub fault_line : {T : Type 0} → Result T Fault → List ℕ
@@ -47,6 +53,8 @@ pub record Session (site : Setup) (old new : Told) (words_faults_old words_fault
   pub put : Appends old.held new.held (talk.put ++ told)
   pub taken : Consumes old.words new.words talk.taken
   pub ended : Ended site ending (IsAtEnd new.left) talk
+  pub limit : length talk.read ≡ input_limit → AnswersWhole site talk → IsLimitEnd ending
   pub lawful : IsLawful site talk.history
+  pub promises : Promises site talk.history
   pub counted : RoseBy (words_faults talk) words_faults_old words_faults_new
   pub tells : Tells (fault_line ending) write_faults_old write_faults_new told

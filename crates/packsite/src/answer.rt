@@ -8,7 +8,11 @@ ghost use Rattle.packsite.specs.Newline.{newline};
 ghost use Rattle.packsite.specs.Requests.{ask_of};
 ghost use Rattle.packsite.specs.Rules.{rule_of};
 ghost use Rattle.packsite.specs.Standing.{Stands};
-ghost use Rattle.packsite.specs.Answers.{Answers, IsPrintable, answer_text, is_answered, tells_words_fault};
+ghost use Rattle.site_core.specs.Plans.{IsNext, HasRoomFor};
+ghost use Rattle.packsite.specs.Keeping.{Keeps};
+ghost use Rattle.serde_json.specs.View.{view};
+ghost use Rattle.serde_json.specs.Written.{compact_text};
+ghost use Rattle.packsite.specs.Answers.{spent_data, Answers, IsPrintable, answer_text, is_answered, tells_words_fault};
 
 use crate::lines::Line;
 use crate::request::read_ask;
@@ -16,7 +20,8 @@ use deed_json::reply_text;
 use deed_words::{Ask, Reply, Rule, Setup};
 use gs1_keys::Memory;
 use outside::Words;
-use site_core::{Site, is_built};
+use serde_json::{Value, json};
+use site_core::{PlanFault, Planned, Site, is_built};
 use std::alloc::Global;
 
 /// What comes of a line.
@@ -26,7 +31,11 @@ pub enum Answer {
     NotBuilt,
     /// The request was kept, with this reply.
     Replied(Reply),
-    /// Memory is wanting. Nothing was done.
+    /// A random word couldn't be had. Nothing was kept.
+    WordsFault,
+    /// The words held only so many new serials. Nothing was kept.
+    WordsSpent(u64),
+    /// Memory is wanting. Nothing was kept.
     Memory,
 }
 
@@ -44,18 +53,19 @@ pub fn answer_line<W: Words>(alloc: Global, site: &mut Site, line: &Line, words:
         return Answer::NotBuilt;
     };
     match read_ask(alloc, site.setup(), bytes) {
-        Ok(Some(ask)) => answer_ask(site, ask),
+        Ok(Some(ask)) => answer_ask(site, ask, words),
         Ok(None) => Answer::NotBuilt,
         Err(_) => Answer::Memory,
     }
 }
 
 /// Answers a request of a station of the setup.
-fn answer_ask(site: &mut Site, ask: Ask) -> Answer
+fn answer_ask<W: Words>(site: &mut Site, ask: Ask, words: &mut W) -> Answer
     requires stands { Stands site.old.setup site.old.history }
     requires station { ask.station < length site.old.setup.stations }
     ensures answer { (line : List ℕ) → length line ≤ line_limit → ask_of site.old.setup line ≡ Some ask
-        → Answers site.old.setup site.old.history line result [] site.new.history }
+        → Takes (W.words_left words.old) (W.words_left words.new) (λ taken. Answers site.old.setup site.old.history line result taken site.new.history) }
+    ensures cause { HasCauseIf (tells_words_fault result) (W.word_faults words.old) (W.word_faults words.new) }
     ensures setup { site.new.setup ≡ site.old.setup }
     ensures stands { Stands site.new.setup site.new.history }
     ensures printable { IsPrintable site.new.setup result }
@@ -66,9 +76,25 @@ fn answer_ask(site: &mut Site, ask: Ask) -> Answer
     if !site.is_next(ask.station, ask.number) {
         return Answer::NotBuilt;
     }
-    let Ok(planned) = site.plan(0, ask, 0) else {
-        return Answer::Memory;
-    };
+    match site.plan(0, ask, 0, words) {
+        Ok(planned) => keep(site, planned),
+        Err(PlanFault::WordsFault) => Answer::WordsFault,
+        Err(PlanFault::WordsSpent(found)) => Answer::WordsSpent(found),
+        Err(PlanFault::Memory) => Answer::Memory,
+    }
+}
+
+/// Keeps what was planned, where its reply is told.
+fn keep(site: &mut Site, planned: Planned) -> Answer
+    requires stands { Stands site.old.setup site.old.history }
+    requires room { HasRoomFor site.old planned }
+    requires next { IsNext site.old.setup site.old.history planned }
+    requires stamp { planned.entry.stamp ≡ 0 }
+    ensures answer { Keeps site.old.history planned result site.new.history }
+    ensures setup { site.new.setup ≡ site.old.setup }
+    ensures stands { Stands site.new.setup site.new.history }
+    ensures printable { IsPrintable site.new.setup result }
+{
     if !is_answered(planned.reply()) {
         return Answer::NotBuilt;
     }
@@ -98,6 +124,8 @@ pub fn print(alloc: Global, setup: &Setup, answer: &Answer) -> Result<String, Me
 {
     match answer {
         Answer::NotBuilt => fixed(alloc, "{\"fault\":\"NotBuilt\",\"ok\":false}\n"),
+        Answer::WordsFault => fixed(alloc, "{\"fault\":\"WordsFault\",\"ok\":false}\n"),
+        Answer::WordsSpent(found) => ended(spent_text(alloc, *found)?),
         Answer::Memory => fixed(alloc, "{\"fault\":\"Memory\",\"ok\":false}\n"),
         Answer::Replied(reply) => ended(reply_text(alloc, reply, setup)?),
     }
@@ -117,6 +145,24 @@ fn ended(text: String) -> Result<String, Memory>
     let mut line = text;
     match line.push('\n') {
         Ok(()) => Ok(line),
+        Err(_) => Err(Memory),
+    }
+}
+
+/// The answer that the words were spent.
+fn spent_value(alloc: Global, found: u64) -> Result<Value, Memory>
+    ensures { IfOk result (λ v. view v ≡ spent_data found) }
+{
+    let value = json!(in alloc; {"fault": "WordsSpent", "found": found, "ok": false});
+    value.map_err(|_| Memory)
+}
+
+/// Its text.
+fn spent_text(alloc: Global, found: u64) -> Result<String, Memory>
+    ensures { IfOk result (λ text. string_bytes text ≡ compact_text (spent_data found)) }
+{
+    match spent_value(alloc, found)?.to_string(alloc) {
+        Ok(text) => Ok(text),
         Err(_) => Err(Memory),
     }
 }

@@ -27,6 +27,30 @@ fn run_on(
     Ok((status, sink.bytes().to_vec(alloc)?))
 }
 
+/// Runs the program over lines and words, with the calls for words that fail, and gives its status and what it put.
+fn drawing(
+    rt: &HostRuntime,
+    input: &[u8],
+    words: Vec<u64>,
+    failing: &[u64],
+) -> Result<(u8, Vec<u8>), Fail> {
+    let alloc = rt.alloc();
+    let args = [String::from_str(alloc, "run")?];
+    let mut source = MemorySource::new(input.to_vec(alloc)?, Vec::new(alloc));
+    let mut sink = MemorySink::new(alloc, Vec::new(alloc));
+    let mut left = MemoryWords::new(words, failing.to_vec(alloc)?);
+    let status = site_top(alloc, &args, &mut source, &mut sink, &mut left);
+    Ok((status, sink.bytes().to_vec(alloc)?))
+}
+
+/// A draw of so many serials as P1's request of that number, as a line.
+fn draw(rt: &HostRuntime, number: u64, batch: &str, count: u32) -> Result<Vec<u8>, Fail> {
+    let line = format!(in rt.alloc();
+        "{{\"station\":\"P1\",\"number\":{number},\"deed\":{{\"do\":\"draw\",\"batch\":\"{batch}\",\"count\":{count}}}}}\n"
+    )?;
+    Ok(line.into_bytes())
+}
+
 /// The texts one after the other.
 fn joined(rt: &HostRuntime, texts: &[&[u8]]) -> Result<Vec<u8>, Fail> {
     let mut all = Vec::new(rt.alloc());
@@ -125,12 +149,68 @@ fn each_cause_of_not_built(rt: HostRuntime) -> Result<(), Fail> {
     assert!(rt; is_refused(&rt, "\"P1\",\"number\":2", "\"L1\",\"number\":1")?);
     assert!(rt; is_refused(&rt, "80614141123458", "00000000000000")?);
     assert!(rt; is_refused(&rt, "\"quantity\":2", "\"quantity\":3")?);
-    assert!(rt;
-        is_unanswered(
-            &rt,
-            b"{\"station\":\"P1\",\"number\":2,\"deed\":{\"do\":\"draw\",\"batch\":\"B6\",\"count\":2}}"
-        )?
+    // draws of too many, and of more than half of the serials that there are
+    assert!(rt; is_unanswered(&rt, &draw(&rt, 2, "B6", 10_001)?)?);
+    assert!(rt; is_unanswered(&rt, &draw(&rt, 2, "B6", 0)?)?);
+    Ok(())
+}
+
+/// Words of which the first is past the last whole block, and the third stands for the serial of the second.
+const FEW_WORDS: [u64; 4] = [18446744073709000000, 5, 1000005, 7];
+
+const FIVE_AND_SEVEN: &[u8] = b"{\"ok\":true,\"serials\":[\"000005\",\"000007\"]}\n";
+
+#[test]
+fn serials_are_drawn(rt: HostRuntime) -> Result<(), Fail> {
+    let two = draw(&rt, 2, "B6", 2)?;
+    let input = joined(&rt, &[ORDER, &two])?;
+    let words = FEW_WORDS.to_vec(rt.alloc())?;
+    let (status, put) = drawing(&rt, &input, words, &[])?;
+    assert_eq!(rt; put, joined(&rt, &[NEW, FIVE_AND_SEVEN])?);
+    assert_eq!(rt; status, 0);
+    Ok(())
+}
+
+#[test]
+fn words_are_spent(rt: HostRuntime) -> Result<(), Fail> {
+    // 68 words that stand for a serial that was drawn; the number isn't used up
+    let two = draw(&rt, 2, "B6", 2)?;
+    let more = draw(&rt, 3, "B6", 1)?;
+    let input = joined(&rt, &[ORDER, &two, &more, &more])?;
+    let mut words = FEW_WORDS.to_vec(rt.alloc())?;
+    words.extend_from_slice(&[5; 68])?;
+    words.push(9)?;
+    let (status, put) = drawing(&rt, &input, words, &[])?;
+    let spent: &[u8] = b"{\"fault\":\"WordsSpent\",\"found\":0,\"ok\":false}\n";
+    let nine: &[u8] = b"{\"ok\":true,\"serials\":[\"000009\"]}\n";
+    assert_eq!(rt; put, joined(&rt, &[NEW, FIVE_AND_SEVEN, spent, nine])?);
+    assert_eq!(rt; status, 0);
+    Ok(())
+}
+
+#[test]
+fn each_answer_in_one_script(rt: HostRuntime) -> Result<(), Fail> {
+    let unknown = draw(&rt, 2, "B9", 2)?;
+    let other = changed(&rt, "\"number\":1", "\"number\":3")?;
+    let other = str::from_utf8(&other)
+        .map_err(|_| Fail::from("no text"))?
+        .replace(rt.alloc(), "B6", "B7")?
+        .into_bytes();
+    let two = draw(&rt, 4, "B6", 2)?;
+    let last = draw(&rt, 5, "B7", 1)?;
+    let input = joined(&rt, &[b"{\n", ORDER, &unknown, &other, &two, &two, &last])?;
+    // the second word can't be had; the last draw passes over 6, which the GTIN has
+    let words = [5, 6, 7, 6, 8].to_vec(rt.alloc())?;
+    let (status, put) = drawing(&rt, &input, words, &[2])?;
+    let refused: &[u8] = b"{\"ok\":false,\"rule\":\"UnknownBatch\"}\n";
+    let fault: &[u8] = b"{\"fault\":\"WordsFault\",\"ok\":false}\n";
+    let drawn: &[u8] = b"{\"ok\":true,\"serials\":[\"000006\",\"000007\"]}\n";
+    let eight: &[u8] = b"{\"ok\":true,\"serials\":[\"000008\"]}\n";
+    assert_eq!(rt;
+        put,
+        joined(&rt, &[NOT_BUILT, NEW, refused, NEW, fault, drawn, eight])?
     );
+    assert_eq!(rt; status, 0);
     Ok(())
 }
 

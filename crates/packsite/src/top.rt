@@ -5,15 +5,17 @@ ghost use Rattle.outside.specs.Causes.{Rose, HasCauseIf};
 ghost use Rattle.outside.specs.Devices.{Puts};
 ghost use Rattle.packsite.specs.Limits.{input_limit};
 ghost use Rattle.packsite.specs.Lines.{is_read_fault};
+ghost use Rattle.packsite.specs.Promises.{Promises};
 ghost use Rattle.packsite.specs.Script.{Ran, Talk};
 ghost use Rattle.packsite.specs.Serving.{is_write_fault};
 ghost use Rattle.packsite.specs.Site.{served_site};
-ghost use Rattle.packsite.specs.Status.{AreRunWords, status_of, fault_line, bad_words_line, Tells, Session};
+ghost use Rattle.packsite.specs.Status.{AreRunWords, IsStatus, status_of, fault_line, bad_words_line, Tells, Session};
 
 use crate::built_in::served_site;
 use crate::fault::Fault;
 use crate::put::put_all;
 use crate::run::run;
+use deed_words::{counts_sum_to_drawn, histories_grow_lawfully, issued_once};
 use outside::{Sink, Source, Words};
 use std::alloc::Global;
 
@@ -27,6 +29,8 @@ pub fn site_top<I: Source, O: Sink, W: Words>(
     out: &mut O,
     words: &mut W,
 ) -> u8
+    ensures statuses { IsStatus result }
+
     ensures bad_words { (result ≡ 2) ↔ ¬ (AreRunWords (map string_bytes args.now)) }
 
     // With other words nothing is read or taken, and only the fault's line is put.
@@ -63,10 +67,13 @@ fn run_site<I: Source, O: Sink, W: Words>(
 ) -> Result<(), Fault>
     ensures ran { (talk : Talk) × Ran served_site (record { left = I.left input.old; held = O.held out.old; words = W.words_left words.old })
         (record { left = I.left input.new; held = O.held out.new; words = W.words_left words.new })
-        (W.word_faults words.old) (W.word_faults words.new) result talk }
+        (W.word_faults words.old) (W.word_faults words.new) result talk × Promises served_site talk.history }
     ensures read { HasCauseIf (is_read_fault result) (I.read_faults input.old) (I.read_faults input.new) }
     ensures write { HasCauseIf (is_write_fault result) (O.write_faults out.old) (O.write_faults out.new) }
 {
+    issued_once();
+    counts_sum_to_drawn();
+    histories_grow_lawfully();
     let setup = served_site(alloc)?;
     run(alloc, setup, input, out, words)
 }

@@ -1,3 +1,7 @@
+mod Deciding
+mod Drawable
 mod Each
+mod Keeping
 mod Ordered
-mod Planning
+mod Serials
+mod Standing

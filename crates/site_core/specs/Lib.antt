@@ -1,3 +1,6 @@
+pub mod Decisions
+pub mod Draws
+pub mod DrawEnds
 pub mod View
 pub mod Plans
 pub mod Stations

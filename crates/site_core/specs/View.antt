@@ -4,13 +4,16 @@ use Rattle.deed_words.specs.Setups.{Setup}
 use Rattle.deed_words.specs.World.{World}
 use Rattle.deed_words.specs.declared.entry.Entry.{Entry}
 
--- the world that lists hold, and for how many more batches there is room
+-- the world that lists hold, and for how many more batches and serials there is room
 pub record Held : Type 0 where
   pub world : World
-  pub room : ℕ
+  pub batch_room : ℕ
+  pub serial_room : ℕ
 
--- a site: its setup, its history, and for how many more entries there is room
+-- a site: its setup, its history, and for how many more entries and serials there is room, in its rows and in its pool
 pub record View : Type 0 where
   pub setup : Setup
   pub history : List Entry
   pub room : ℕ
+  pub serial_room : ℕ
+  pub pool_room : ℕ

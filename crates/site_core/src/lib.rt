@@ -1,6 +1,8 @@
 //! The site: what it keeps, and the next entry of its history, which is planned and then committed.
 #![tactic(auto)]
 
+mod decision;
+mod drawing;
 mod lists;
 mod order;
 mod planned;
@@ -9,6 +11,6 @@ mod site;
 mod stations;
 
 pub use order::is_built;
-pub use planned::Planned;
+pub use planned::{PlanFault, Planned};
 pub use site::Site;
 pub use stations::station_of;

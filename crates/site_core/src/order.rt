@@ -81,6 +81,7 @@ pub fn is_built(deed: &Deed) -> bool
 {
     match deed {
         Deed::Order(_) => true,
+        Deed::Draw(_, _) => true,
         _ => false,
     }
 }

@@ -1,37 +1,49 @@
 //! The site.
 ghost use Rattle.std.specs.Prelude.{◌≡◌, ◌<◌, ◌≤◌, ◌+◌, ◌++◌, ◌∷◌, [], length, true, IfOk, OnOk, nat_eq, count_by};
-ghost use Rattle.deed_words.specs.declared.entry.Entry.{Entry};
-ghost use Rattle.deed_words.specs.History.{own, last_stamp, IsLawful, MayFollow, world_of};
-ghost use Rattle.deed_words.specs.Replies.{reply_to};
-ghost use Rattle.site_core.specs.Plans.{is_built, entry_of, IsNext};
+ghost use Rattle.outside.specs.Causes.{HasCauseIf};
+ghost use Rattle.outside.specs.Devices.{Takes};
+ghost use Rattle.deed_words.specs.History.{own, last_stamp};
+ghost use Rattle.site_core.specs.Draws.{drawn_by_plan, MayCommit};
+ghost use Rattle.site_core.specs.DrawEnds.{is_words_fault};
+ghost use Rattle.site_core.specs.Plans.{is_built, Plans, IsNext, HasRoomFor};
 
+use crate::decision::{Decision, decide};
 use crate::lists::Lists;
-use crate::order::{order_answer, order_rule};
-use crate::planned::Planned;
-use deed_words::{Ask, Deed, Entry, Reply, Setup, StationId};
-use gs1_keys::{Memory, Serials};
+use crate::planned::{PlanFault, Planned};
+use deed_words::{Ask, Entry, Setup, StationId};
+use gs1_keys::Memory;
+use outside::Words;
+use serial_pool::{DrawPlan, Pool};
 use std::alloc::Global;
 use std::marker::Model;
 
-/// A site: its setup, its history, which is lawful, and what stands after it.
+/// A site: its setup, its history, which is lawful, what stands after it, and the serials that were drawn.
 #[derive(Drop)]
 pub struct Site {
     alloc: Global,
     setup: Setup,
     history: Vec<Entry>,
     lists: Lists,
+    pool: Pool,
 }
 
 impl Model for Site {
     ghost use Rattle.std.specs.Prelude.{◌≡◌, ◌-◌, min, vec_len, vec_capacity};
     ghost use Rattle.deed_words.specs.History.{IsLawful, world_of};
+    ghost use Rattle.site_core.specs.Draws.{drawn_in};
     ghost use Rattle.site_core.specs.View.{View};
 
     ghost Value = { View };
 
-    ghost view = { λ s. record { setup = s.setup; history = s.history.items; room = min (vec_capacity s.history - vec_len s.history) s.lists.room } };
+    ghost view = { λ s. record {
+      setup = s.setup;
+      history = s.history.items;
+      room = min (vec_capacity s.history - vec_len s.history) s.lists.batch_room;
+      serial_room = s.lists.serial_room;
+      pool_room = s.pool.room;
+    } };
 
-    ghost invariant = { λ s. IsLawful s.setup s.history.items × (s.lists.world ≡ world_of s.setup s.history.items) };
+    ghost invariant = { λ s. IsLawful s.setup s.history.items × (s.lists.world ≡ world_of s.setup s.history.items) × (s.pool.drawn ≡ drawn_in s.lists.world) };
 }
 
 impl Site {
@@ -44,6 +56,7 @@ impl Site {
             setup,
             history: Vec::new(alloc),
             lists: Lists::new(alloc),
+            pool: Pool::new(alloc),
         })
     }
 
@@ -65,49 +78,104 @@ impl Site {
     }
 
     /// Works out the entry that a request becomes, with its reply, and makes room for it. A rule that the request
-    /// breaks is a reply. The site stays as it is.
+    /// breaks is a reply. A draw that breaks none takes words. The site stays as it is.
     ///
     /// The request is of a station of the setup and has its next number; the stamp is not before the last one.
-    pub fn plan(&mut self, worker: u8, ask: Ask, stamp: u64) -> Result<Planned, Memory>
+    ///
+    /// # Errors
+    ///
+    /// `WordsSpent` exactly where `4 * count + 64` words held fewer new serials than the draw asks for. `WordsFault`
+    /// where a word couldn't be had. `Memory` where no memory was found.
+    pub fn plan<W: Words>(
+        &mut self,
+        worker: u8,
+        ask: Ask,
+        stamp: u64,
+        words: &mut W,
+    ) -> Result<Planned, PlanFault>
         requires station { ask.station < length self.old.setup.stations }
         requires number { ask.number ≡ length (own ask.station self.old.history) + 1 }
         requires stamp { last_stamp self.old.history ≤ stamp }
         requires built { is_built ask.deed ≡ true }
-        ensures entry { IfOk result (λ planned. planned.entry ≡ entry_of worker ask stamp []) }
-        ensures next { IfOk result (λ planned. IsNext self.old.setup self.old.history planned) }
+        ensures plan { Takes (W.words_left words.old) (W.words_left words.new) (λ taken. Plans self.old.setup self.old.history worker ask stamp taken result) }
+        ensures cause { HasCauseIf (is_words_fault result) (W.word_faults words.old) (W.word_faults words.new) }
+        ensures same { (self.new.setup ≡ self.old.setup) × (self.new.history ≡ self.old.history) }
+        ensures room { IfOk result (λ planned. HasRoomFor self.new planned) }
+    {
+        let decision = match decide(
+            self.alloc,
+            &self.setup,
+            &self.lists,
+            &mut self.pool,
+            ask.station,
+            &ask.deed,
+            words,
+        ) {
+            Ok(decision) => decision,
+            Err(fault) => return Err(fault),
+        };
+        let Ok(()) = self.make_room(decision.drawn.len()) else {
+            return Err(PlanFault::Memory);
+        };
+        Ok(planned(worker, ask, stamp, decision))
+    }
+
+    /// Makes room for one more entry, with so many serials.
+    fn make_room(&mut self, serials: usize) -> Result<(), Memory>
         ensures same { (self.new.setup ≡ self.old.setup) × (self.new.history ≡ self.old.history) }
         ensures room { OnOk result (0 < self.new.room) }
+        ensures serial_room { OnOk result (serials ≤ self.new.serial_room) }
+        ensures pool_room { self.new.pool_room ≡ self.old.pool_room }
     {
-        let reply = reply_of(&self.setup, &self.lists, ask.station, &ask.deed);
-        self.lists.ready()?;
-        let Ok(()) = self.history.reserve(1) else {
-            return Err(Memory);
-        };
-        Ok(Planned {
-            entry: Entry {
-                station: ask.station,
-                number: ask.number,
-                worker,
-                stamp,
-                deed: ask.deed,
-                drawn: Serials::new(self.alloc),
-            },
-            reply,
-        })
+        self.lists.ready(serials)?;
+        match self.history.reserve(1) {
+            Ok(()) => Ok(()),
+            Err(_) => Err(Memory),
+        }
     }
 
     /// Puts what was planned last into the history. It takes no memory.
     pub fn commit(&mut self, planned: Planned)
-        requires room { 0 < self.old.room }
+        requires room { HasRoomFor self.old planned }
         requires next { IsNext self.old.setup self.old.history planned }
         ensures setup { self.new.setup ≡ self.old.setup }
         ensures history { self.new.history ≡ self.old.history ++ planned.entry ∷ [] }
     {
-        self.lists.keep(&planned);
-        match self.history.push(planned.entry) {
-            Ok(()) => {}
-            Err(_) => unreachable!(),
-        }
+        self.lists.keep(&self.setup, &planned);
+        commit_draw(&mut self.pool, planned.draw);
+        self.history.push_reserved(planned.entry);
+    }
+}
+
+/// The entry that the request becomes.
+fn planned(worker: u8, ask: Ask, stamp: u64, decision: Decision) -> Planned
+    ensures entry { result.entry ≡ record { station = ask.station; number = ask.number; worker = worker; stamp = stamp; deed = ask.deed; drawn = decision.drawn } }
+    ensures reply { result.reply ≡ decision.reply }
+    ensures draw { result.draw ≡ decision.draw }
+{
+    Planned {
+        entry: Entry {
+            station: ask.station,
+            number: ask.number,
+            worker,
+            stamp,
+            deed: ask.deed,
+            drawn: decision.drawn,
+        },
+        reply: decision.reply,
+        draw: decision.draw,
+    }
+}
+
+/// Draws what was planned, if there is a draw.
+fn commit_draw(pool: &mut Pool, draw: Option<DrawPlan>)
+    requires may { MayCommit pool.old.drawn draw }
+    requires room { length (drawn_by_plan draw) ≤ pool.old.room }
+    ensures { pool.new.drawn ≡ pool.old.drawn ++ drawn_by_plan draw }
+{
+    match draw {
+        Some(plan) => pool.commit_draw(plan),
+        None => {}
     }
 }
 
@@ -119,19 +187,4 @@ fn own_count(history: &[Entry], station: StationId) -> usize
         .iter()
         .filter(|entry| entry.station.0 == station.0)
         .count()
-}
-
-/// The reply to a deed that draws nothing.
-fn reply_of(setup: &Setup, lists: &Lists, station: StationId, deed: &Deed) -> Reply
-    requires built { is_built deed.now ≡ true }
-    ensures { (entry : Entry) → entry.station ≡ station → entry.deed ≡ deed.now → entry.drawn ≡ []
-        → result ≡ reply_to setup.now lists.now.world entry }
-{
-    let Deed::Order(row) = deed else {
-        unreachable!()
-    };
-    match order_rule(setup, lists, station, row) {
-        Some(rule) => Reply::Refused(rule),
-        None => Reply::Accepted(order_answer(lists, row)),
-    }
 }

@@ -1,4 +1,4 @@
-use Rattle.std.proofs.Common.{◌≡◌, ℕ, Bool, arith, sym, ◌∙◌, ap}
+use Rattle.std.proofs.Common.{ℕ, Bool, arith, sym, ◌∙◌, ap}
 use Rattle.deed_words.specs.Names.{same}
 use Rattle.deed_words.specs.Chain.{when}
 use Rattle.deed_words.specs.declared.setup.Station.{Station}

@@ -4,7 +4,7 @@ use Rattle.std.proofs.lemmas.List.Sums.{length-filter}
 use Rattle.deed_words.specs.declared.entry.Entry.{Entry}
 use Rattle.deed_words.specs.History.{own}
 use Rattle.site_core.specs.View.{View}
-use Rattle.site_core.proofs.Planning.{next_number}
+use Rattle.site_core.proofs.Standing.{next_number}
 use Rattle.site_core.proofs.site.Site.is_next.Goals as goal
 
 pub returns : goal.returns
