@@ -1,10 +1,10 @@
 -- A worked history: it is lawful, its setup and entries are proper, and each number of its station has its meaning.
-use Rattle.std.proofs.Common.{◌≡◌, List, [], ◌∷◌, refl, arith, true, None, length, inr}
+use Rattle.std.proofs.Common.{◌≡◌, List, [], ◌∷◌, refl, arith, true, None, inr}
 use Rattle.std.specs.Prelude.{codes}
 use Rattle.std.proofs.lemmas.List.Elements.{All-nil, All-cons}
-use Rattle.std.proofs.lemmas.List.Sums.{AllPass-from_list_all}
-use Rattle.std.specs.List.{IsDistinct, list_all}
-use Rattle.gs1_keys.specs.Keys.{is_digit}
+use Rattle.std.specs.List.{IsDistinct}
+use Rattle.gs1_keys.specs.Forms.{is_in_form}
+use Rattle.gs1_keys.specs.declared.form.Alphabet.TheVariants.{Digits}
 use Rattle.gs1_element.specs.Dates.{is_expiry, date_fault}
 use Rattle.deed_words.specs.Names.{Text, same, same_name, same_order}
 use Rattle.deed_words.specs.Chain.{first, when, holds_of, each, each_from}
@@ -48,10 +48,10 @@ abbrev order : OrderRow
 order = record { batch = name; gtin = second_product; lot = codes "LOT6"; expiry = codes "271231"; quantity = 2; case_size = 2; pallet_size = 0 }
 
 abbrev ordering : Entry
-ordering = record { station = p1; number = 1; worker = 0; stamp = 1767225600000; deed = Order order; drawn = [] }
+ordering = record { station = p1; number = 1; worker = 0; stamp = 1767225600000; operator = None; deed = Order order; drawn = [] }
 
 abbrev drawing : Entry
-drawing = record { station = p1; number = 2; worker = 0; stamp = 1767225600000; deed = Draw name 2; drawn = codes "000005" ∷ codes "000007" ∷ [] }
+drawing = record { station = p1; number = 2; worker = 0; stamp = 1767225600000; operator = None; deed = Draw name 2; drawn = codes "000005" ∷ codes "000007" ∷ [] }
 
 abbrev history : List Entry
 history = ordering ∷ drawing ∷ []
@@ -64,17 +64,17 @@ both_proper = (record { stamp = omega arith; deed = refl; drawn = omega arith },
 abbrev ordered : World
 ordered = after site nothing_yet ordering
 
-new_serial : (serial : Text) → list_all is_digit serial ≡ true → length serial ≡ 6 → has_form site second_product serial
+new_serial : (serial : Text) → is_in_form (record { alphabet = Digits; length = 6 }) serial ≡ true → has_form site second_product serial
 unfolding has_form product_of same
-new_serial serial digits six = (record { gtin = second_product; prefix_length = 7; serial_length = 6 }, refl, six, digits)
+new_serial serial form = (record { gtin = second_product; prefix_length = 7; form = record { alphabet = Digits; length = 6 } }, refl, form)
 
 both_new : AreNew site ordered second_product 2 drawing.drawn
 unfolding row_of after unless_broken broken rules_of first when holds_of each each_from role_forbids is_for is_planner role_of unknown_product order_rows product_of order_conflict conflicts orders_in site_full full new_orders is_ordered effect with_orders same IsDistinct same_order same_name
 both_new = record {
   counted = refl;
   formed =
-      All-cons (has_form site second_product) (codes "000005") (codes "000007" ∷ []) (new_serial (codes "000005") refl refl)
-      (All-cons (has_form site second_product) (codes "000007") [] (new_serial (codes "000007") refl refl) (All-nil (has_form site second_product)));
+      All-cons (has_form site second_product) (codes "000005") (codes "000007" ∷ []) (new_serial (codes "000005") refl)
+      (All-cons (has_form site second_product) (codes "000007") [] (new_serial (codes "000007") refl) (All-nil (has_form site second_product)));
   distinct = ((refl, tt), (tt, tt));
   unknown = All-cons (λ (serial : Text). row_of ordered second_product serial ≡ None) (codes "000005") (codes "000007" ∷ []) refl (All-cons (λ (serial : Text). row_of ordered second_product serial ≡ None) (codes "000007") [] refl (All-nil (λ (serial : Text). row_of ordered second_product serial ≡ None)));
 }

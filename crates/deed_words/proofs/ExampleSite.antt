@@ -1,7 +1,8 @@
 -- A site of two products and four stations, and how its examples are written.
-use Rattle.std.proofs.Common.{ℕ, zero, suc, ◌+◌, List, [], ◌∷◌, map}
+use Rattle.std.proofs.Common.{ℕ, zero, suc, ◌+◌, List, [], ◌∷◌, map, None}
 use Rattle.std.specs.Prelude.{codes}
 use Rattle.gs1_keys.specs.Keys.{digits_of}
+use Rattle.gs1_keys.specs.declared.form.Alphabet.TheVariants.{Digits}
 use Rattle.epc_urn.specs.declared.epc.Epc.{Epc}
 use Rattle.epc_urn.specs.declared.epc.Epc.TheVariants.{Item}
 use Rattle.gs1_element.specs.declared.code.Code.{Code}
@@ -32,8 +33,8 @@ site = record {
   reference = 1;
   offset = codes "+00:00";
   products =
-      record { gtin = first_product; prefix_length = 7; serial_length = 10 }
-      ∷ record { gtin = second_product; prefix_length = 7; serial_length = 6 } ∷ [];
+      record { gtin = first_product; prefix_length = 7; form = record { alphabet = Digits; length = 10 } }
+      ∷ record { gtin = second_product; prefix_length = 7; form = record { alphabet = Digits; length = 6 } } ∷ [];
   stations =
       record { name = codes "P1"; role = Planner } ∷ record { name = codes "L1"; role = Line }
       ∷ record { name = codes "L2"; role = Line } ∷ record { name = codes "Q1"; role = Quality } ∷ [];
@@ -54,10 +55,10 @@ q1 = 3
 
 -- a deed of a station, and one that draws; what rules and effects make of them doesn't depend on number and stamp
 abbrev pub by : ℕ → Deed → Entry
-by station deed = record { station = station; number = 1; worker = 0; stamp = 0; deed = deed; drawn = [] }
+by station deed = record { station = station; number = 1; worker = 0; stamp = 0; operator = None; deed = deed; drawn = [] }
 
 abbrev pub drawing : Deed → List Text → Entry
-drawing deed serials = record { station = p1; number = 1; worker = 0; stamp = 0; deed = deed; drawn = serials }
+drawing deed serials = record { station = p1; number = 1; worker = 0; stamp = 0; operator = None; deed = deed; drawn = serials }
 
 abbrev pub batch : Text
 batch = codes "B7"

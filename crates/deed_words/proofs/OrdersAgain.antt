@@ -157,13 +157,13 @@ all_products : (site : Setup) (history : List Entry) → Every (OfProduct site) 
 unfolding world_of
 all_products site history = products_from site nothing_yet history tt
 
-pub orders_again : (site : Setup) (history : List Entry) (station number worker stamp : ℕ) (rows : List OrderRow) → IsProper site → IsLawful site history → IsForPlanner site station → 0 < length rows → Every (WasAccepted (world_of site history)) rows
-    → let entry : Entry = record { station = station; number = number; worker = worker; stamp = stamp; deed = Orders rows; drawn = [] } in
+pub orders_again : (site : Setup) (history : List Entry) (station number worker stamp : ℕ) (operator : Option Text) (rows : List OrderRow) → IsProper site → IsLawful site history → IsForPlanner site station → 0 < length rows → Every (WasAccepted (world_of site history)) rows
+    → let entry : Entry = record { station = station; number = number; worker = worker; stamp = stamp; operator = operator; deed = Orders rows; drawn = [] } in
     (after site (world_of site history) entry ≡ world_of site history) × (reply_to site (world_of site history) entry ≡ Accepted (told.Orders 0 (length rows)))
 unfolding after unless_broken effect with_orders reply_to replied answer_to orders_answer order_rows
-orders_again site history station number worker stamp rows proper lawful planner some known =
+orders_again site history station number worker stamp operator rows proper lawful planner some known =
     let w : World = world_of site history in
-    let entry : Entry = record { station = station; number = number; worker = worker; stamp = stamp; deed = Orders rows; drawn = [] } in
+    let entry : Entry = record { station = station; number = number; worker = worker; stamp = stamp; operator = operator; deed = Orders rows; drawn = [] } in
     let fine : broken site w station (Orders rows) ≡ None = breaks_none site w station rows (lawful_is_sound site history proper lawful) (all_products site history) planner some known in
     let none : new_orders (orders_in w) rows ≡ [] = changes_none w rows known in (
       ap (unless_broken site w entry) fine ∙ ap (λ (os : List OrderRow). record w { batches = w.batches ++ map planned os }) none ∙ ap (λ (bs : List Batch). record w { batches = bs }) (append-nil w.batches),

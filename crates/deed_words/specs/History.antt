@@ -1,7 +1,7 @@
 -- The history of a site: its world, when it is lawful, and what a number means.
 use Rattle.std.specs.Prelude.{◌≡◌, ℕ, ◌+◌, ◌<◌, ◌≤◌, List, [], ◌∷◌, ◌++◌, length, filter, Option, None, Some, true, nat_eq, All}
-use Rattle.std.specs.List.{IsDistinct, list_all}
-use Rattle.gs1_keys.specs.Keys.{is_digit}
+use Rattle.std.specs.List.{IsDistinct}
+use Rattle.gs1_keys.specs.Forms.{is_in_form}
 use Rattle.deed_words.specs.Names.{Text, same}
 use Rattle.deed_words.specs.Setups.{Setup, product_of}
 use Rattle.deed_words.specs.declared.setup.Product.{Product}
@@ -35,7 +35,7 @@ last_stamp (entry ∷ more ∷ entries) = last_stamp (more ∷ entries)
 -- a serial of the product's form
 unfoldable pub has_form : Setup → Text → Text → Type 0
 has_form site gtin serial =
-    (product : Product) × (product_of site gtin ≡ Some product) × (length serial ≡ product.serial_length) × (list_all is_digit serial ≡ true)
+    (product : Product) × (product_of site gtin ≡ Some product) × (is_in_form product.form serial ≡ true)
 
 -- so many serials, of the form, all different, and none drawn before
 pub record AreNew (site : Setup) (w : World) (gtin : Text) (count : ℕ) (serials : List Text) : Type 0 where

@@ -8,6 +8,7 @@ use Rattle.deed_words.specs.declared.deed.OrderRow.{OrderRow}
 use Rattle.deed_words.specs.declared.deed.Deed.{Deed}
 use Rattle.deed_words.specs.declared.deed.Deed.TheVariants.{Order, Orders, Commission, Spoil, Giveback, Sample, Reject, Reinstate, Destroy, Decommission, Pack, Unpack, Amend}
 use Rattle.deed_words.specs.declared.entry.Ask.{Ask}
+use Rattle.deed_words.specs.declared.entry.Said.{Said}
 use Rattle.deed_words.specs.declared.entry.Entry.{Entry}
 
 -- an order with a date, 1 to 1,000,000 items, 1 to 1,000 in a case and up to 1,000 cases on a pallet
@@ -36,6 +37,10 @@ IsProperDeed (Pack unit children) = IsShort children
 IsProperDeed (Unpack unit children) = IsShort children
 IsProperDeed (Amend name quantity) = is_between 1 1000000 quantity ≡ true
 IsProperDeed deed = Unit {0}
+
+-- an operator is a text, which its type keeps
+abbrev pub IsProperSaid : Said → Type 0
+IsProperSaid said = IsProperDeed said.deed
 
 abbrev pub IsProperAsk : Ask → Type 0
 IsProperAsk ask = IsProperDeed ask.deed

@@ -1,8 +1,9 @@
 -- The setup of a site, and what it fixes: roles, products, and the next container code.
-use Rattle.std.specs.Prelude.{◌≡◌, ◌≤◌, ◌<◌, true, Some, ℕ, ◌+◌, ◌-◌, ◌*◌, ◌/◌, ◌^◌, ◌==◌, Bool, ◌&&◌, ◌||◌, List, length, map, take, find, Option, option_map, nat_le, slice_index}
+use Rattle.std.specs.Prelude.{◌≡◌, ◌≤◌, ◌<◌, true, Some, ℕ, ◌+◌, ◌-◌, ◌*◌, ◌^◌, ◌==◌, Bool, ◌&&◌, ◌||◌, List, length, map, take, find, Option, option_map, nat_le, slice_index}
 use Rattle.std.specs.List.{slice_get, list_all, IsDistinct}
 use Rattle.std.specs.Option.{option_map_or}
 use Rattle.gs1_keys.specs.Keys.{issue, is_digit, is_between}
+use Rattle.gs1_keys.specs.Forms.{is_form, half_size}
 use Rattle.gs1_element.specs.Dates.{two_digits}
 use Rattle.deed_words.specs.declared.setup.Product.{Product}
 use Rattle.deed_words.specs.declared.setup.Station.{Station}
@@ -26,9 +27,9 @@ role_of site station = option_map (λ s. s.role) (slice_get site.stations statio
 unfoldable pub product_of : Setup → Text → Option Product
 product_of site gtin = find (λ product. same product.gtin gtin) site.products
 
--- half of the serials that there are of a product
+-- half of the serials that a product's form has
 unfoldable pub half_pool : Setup → Text → ℕ
-half_pool site gtin = option_map_or (λ product. 10 ^ product.serial_length / 2) (product_of site gtin) 0
+half_pool site gtin = option_map_or (λ product. half_size product.form) (product_of site gtin) 0
 
 -- the reference of the next unit
 unfoldable pub next_reference : Setup → World → ℕ
@@ -60,9 +61,9 @@ is_offset text =
     && nat_le (two_digits text 4) 59
     && nat_le (two_digits text 1 * 60 + two_digits text 4) 840
 
--- a product's prefix has 6 to 12 digits, and its serials have 6 to 18
+-- a product's prefix has 6 to 12 digits, and its serials are 6 to 18 digits or 6 to 12 of the 32 characters
 unfoldable pub is_product : Product → Bool
-is_product product = is_between 6 12 product.prefix_length && is_between 6 18 product.serial_length
+is_product product = is_between 6 12 product.prefix_length && is_form product.form
 
 abbrev pub gtins_of : List Product → List Text
 gtins_of products = map (λ product. product.gtin) products

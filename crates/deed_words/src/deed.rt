@@ -1,12 +1,12 @@
 //! Deeds.
-ghost use Rattle.std.specs.Prelude.{◌≡◌, ◌↔◌, true};
+ghost use Rattle.std.specs.Prelude.{◌≡◌, ◌↔◌, true, IfOk};
 ghost use Rattle.std.specs.List.{list_all};
 ghost use Rattle.gs1_keys.specs.Keys.{is_between};
 ghost use Rattle.deed_words.specs.Proper.{is_order, is_dated, IsProperDeed};
 
 use crate::{Codes, Epcs, Level, Rows};
 use gs1_element::{Code, is_date};
-use gs1_keys::{Gtin, Serials, Sscc, Text20};
+use gs1_keys::{Gtin, Memory, Serials, Sscc, Text20};
 
 /// The order of a batch.
 #[derive(Clone, Copy, Debug, PartialEq, Eq)]
@@ -140,5 +140,38 @@ impl Deed {
             Deed::Amend(_, quantity) => is_quantity(*quantity),
             _ => true,
         }
+    }
+
+    /// An equal deed.
+    pub fn copy(&self) -> Result<Self, Memory>
+        ensures { IfOk result (λ copy. copy ≡ self.now) }
+    {
+        Ok(match self {
+            Deed::Order(row) => Deed::Order(*row),
+            Deed::Orders(rows) => Deed::Orders(rows.copy()?),
+            Deed::Start(batch) => Deed::Start(*batch),
+            Deed::Draw(batch, count) => Deed::Draw(*batch, *count),
+            Deed::Lend(batch, count) => Deed::Lend(*batch, *count),
+            Deed::Commission(batch, codes) => Deed::Commission(*batch, codes.copy()?),
+            Deed::Spoil(batch, serials) => Deed::Spoil(*batch, serials.copy()?),
+            Deed::Giveback(batch, serials) => Deed::Giveback(*batch, serials.copy()?),
+            Deed::Sample(batch, items) => Deed::Sample(*batch, items.copy()?),
+            Deed::Reject(batch, items) => Deed::Reject(*batch, items.copy()?),
+            Deed::Reinstate(batch, items) => Deed::Reinstate(*batch, items.copy()?),
+            Deed::Destroy(batch, items) => Deed::Destroy(*batch, items.copy()?),
+            Deed::Decommission(batch, items) => Deed::Decommission(*batch, items.copy()?),
+            Deed::Container(batch, level) => Deed::Container(*batch, *level),
+            Deed::Pack(unit, children) => Deed::Pack(*unit, children.copy()?),
+            Deed::Unpack(unit, children) => Deed::Unpack(*unit, children.copy()?),
+            Deed::UnpackAll(unit) => Deed::UnpackAll(*unit),
+            Deed::Seal(unit) => Deed::Seal(*unit),
+            Deed::Unseal(unit) => Deed::Unseal(*unit),
+            Deed::Void(unit) => Deed::Void(*unit),
+            Deed::Declare(batch, good, spoiled, returned) => {
+                Deed::Declare(*batch, *good, *spoiled, *returned)
+            }
+            Deed::Close(batch) => Deed::Close(*batch),
+            Deed::Amend(batch, quantity) => Deed::Amend(*batch, *quantity),
+        })
     }
 }

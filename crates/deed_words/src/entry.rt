@@ -1,9 +1,9 @@
 //! What is asked, and what is kept of it.
-ghost use Rattle.std.specs.Prelude.{◌≡◌, ◌↔◌, true};
+ghost use Rattle.std.specs.Prelude.{◌≡◌, ◌↔◌, true, IfOk};
 ghost use Rattle.deed_words.specs.Proper.{IsProperEntry};
 
 use crate::{BatchId, Deed, Epcs, OrderRow, StationId};
-use gs1_keys::{Serials, Sscc};
+use gs1_keys::{Memory, Serials, Sscc, Text20};
 
 /// A numbered request of a station.
 #[derive(Debug, Drop)]
@@ -12,8 +12,19 @@ pub struct Ask {
     pub station: StationId,
     /// The station's own number of the request. Numbers begin at 1.
     pub number: u64,
+    /// Who worked at the station, where it was told.
+    pub operator: Option<Text20>,
     /// What is asked for.
     pub deed: Deed,
+}
+
+/// What a request says: the deed, and who worked at the station, where it was told.
+#[derive(Debug, Drop)]
+pub struct Said {
+    /// What is asked for.
+    pub deed: Deed,
+    /// The operator.
+    pub operator: Option<Text20>,
 }
 
 /// A request that got a reply: one line of the history.
@@ -27,6 +38,8 @@ pub struct Entry {
     pub worker: u8,
     /// When it was served: milliseconds since 1970, at most 253402300799999, the last of the year 9999.
     pub stamp: u64,
+    /// Who worked at the station, where it was told. Operators aren't compared: a repeat by another one is the same request.
+    pub operator: Option<Text20>,
     /// What was asked for.
     pub deed: Deed,
     /// The serials that it drew; none where it is no accepted draw.
@@ -39,6 +52,21 @@ impl Entry {
         ensures { (result ≡ true) ↔ IsProperEntry self.now }
     {
         self.stamp <= 253_402_300_799_999 && self.drawn.len() <= 10_000 && self.deed.is_proper()
+    }
+
+    /// An equal entry.
+    pub fn copy(&self) -> Result<Self, Memory>
+        ensures { IfOk result (λ copy. copy ≡ self.now) }
+    {
+        Ok(Entry {
+            station: self.station,
+            number: self.number,
+            worker: self.worker,
+            stamp: self.stamp,
+            operator: self.operator,
+            deed: self.deed.copy()?,
+            drawn: self.drawn.copy()?,
+        })
     }
 }
 

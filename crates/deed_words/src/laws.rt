@@ -1,5 +1,5 @@
 //! Laws of the definitions: each is the contract of a function that does nothing.
-ghost use Rattle.std.specs.Prelude.{◌++◌, ◌∷◌, ◌≡◌, ◌<◌, true, List, [], ℕ, length, Some, None, option_map, map, sum_by, Bool};
+ghost use Rattle.std.specs.Prelude.{◌++◌, ◌∷◌, ◌≡◌, ◌<◌, true, List, [], ℕ, length, Option, Some, None, option_map, map, sum_by, Bool};
 ghost use Rattle.std.specs.List.{IsDistinct, AllByRecursion as Every};
 ghost use Rattle.deed_words.specs.Setups.{Setup, IsForPlanner, IsProper};
 ghost use Rattle.deed_words.specs.declared.entry.Entry.{Entry};
@@ -69,9 +69,9 @@ pub fn codes_made_once()
 
 /// Order rows that were all accepted before change nothing.
 pub fn orders_again_change_nothing()
-    ensures { (site : Setup) (history : List Entry) (station number worker stamp : ℕ) (rows : List OrderRow) → IsProper site → IsLawful site history
+    ensures { (site : Setup) (history : List Entry) (station number worker stamp : ℕ) (operator : Option Text) (rows : List OrderRow) → IsProper site → IsLawful site history
         → IsForPlanner site station → 0 < length rows → Every (WasAccepted (world_of site history)) rows
-        → let entry : Entry = record { station = station; number = number; worker = worker; stamp = stamp; deed = Orders rows; drawn = [] } in
+        → let entry : Entry = record { station = station; number = number; worker = worker; stamp = stamp; operator = operator; deed = Orders rows; drawn = [] } in
         (after site (world_of site history) entry ≡ world_of site history) × (reply_to site (world_of site history) entry ≡ Accepted (orders_told 0 (length rows))) }
 {}
 

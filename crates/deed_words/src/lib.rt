@@ -13,7 +13,7 @@ mod words;
 mod world;
 
 pub use deed::{Deed, OrderRow};
-pub use entry::{Ask, Entry, FaultKind, Move, Note};
+pub use entry::{Ask, Entry, FaultKind, Move, Note, Said};
 pub use laws::{
     closed_batches_stay, closes_where_accounted, codes_made_once, counts_sum_to_drawn,
     histories_grow_lawfully, issued_once, orders_again_change_nothing, replies_list_what_is_issued,

@@ -7,7 +7,7 @@ ghost use Rattle.deed_words.specs.Setups.{role_of, product_of, is_product, is_of
 
 use crate::names::{same_gtin, same_text};
 use crate::{Products, Role, StationId, Stations};
-use gs1_keys::{Gln, Gtin, Prefix, Text20};
+use gs1_keys::{Gln, Gtin, Prefix, SerialForm, Text20};
 use std::marker::Model;
 
 /// A product of the site.
@@ -17,8 +17,8 @@ pub struct Product {
     pub gtin: Gtin,
     /// How many digits of the GTIN are the company prefix: 6 to 12.
     pub prefix_length: u8,
-    /// How many digits a serial of it has: 6 to 18.
-    pub serial_length: u8,
+    /// What its serials look like: 6 to 18 digits, or 6 to 12 letters and digits.
+    pub form: SerialForm,
 }
 
 /// A station of the site.
@@ -97,12 +97,12 @@ fn is_time_offset(text: &[u8; 6]) -> bool
         && two_digits_at(text, 1) * 60 + two_digits_at(text, 4) <= 840
 }
 
-/// Whether the lengths of the product are in their ranges.
+/// Whether the lengths of the product's prefix and serials are in their ranges.
 #[tactic(auto, unfolding(crate::specs::Setups::is_product))]
 fn is_in_range(product: &Product) -> bool
     ensures { result ≡ is_product product.now }
 {
-    (6..=12).contains(&product.prefix_length) && (6..=18).contains(&product.serial_length)
+    (6..=12).contains(&product.prefix_length) && product.form.is_proper()
 }
 
 /// Whether the lengths of all products are in their ranges.

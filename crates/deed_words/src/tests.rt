@@ -1,7 +1,7 @@
 use super::*;
 use epc_urn::Epc;
 use gs1_element::Code;
-use gs1_keys::{Gln, Gtin, Prefix, Serials, Sscc, Text20};
+use gs1_keys::{Alphabet, Gln, Gtin, Prefix, SerialForm, Serials, Sscc, Text20};
 use std::alloc::Global;
 use std::test::Fail;
 
@@ -25,17 +25,25 @@ fn order() -> Result<OrderRow, Fail> {
     })
 }
 
+/// Serials of so many digits.
+fn digits(length: u8) -> SerialForm {
+    SerialForm {
+        alphabet: Alphabet::Digits,
+        length,
+    }
+}
+
 fn products(alloc: Global) -> Result<Products, Fail> {
     let mut products = Products::new(alloc);
     products.push(Product {
         gtin: Gtin::read(b"00614141123452".as_slice())?,
         prefix_length: 7,
-        serial_length: 10,
+        form: digits(10),
     })?;
     products.push(Product {
         gtin: gtin()?,
         prefix_length: 7,
-        serial_length: 6,
+        form: digits(6),
     })?;
     Ok(products)
 }
@@ -73,6 +81,7 @@ fn entry(alloc: Global, stamp: u64) -> Result<Entry, Fail> {
         number: 1,
         worker: 0,
         stamp,
+        operator: None,
         deed: Deed::Start(text(b"B6".as_slice())?),
         drawn: Serials::new(alloc),
     })
@@ -86,7 +95,7 @@ fn a_setup_is_made_of_proper_parts(rt: HostRuntime) -> Result<(), Fail> {
     };
     assert_eq!(rt; site.role(StationId(3)), Some(Role::Quality));
     let made = site.product(&gtin()?);
-    assert_eq!(rt; made.map(|product| product.serial_length), Some(6));
+    assert_eq!(rt; made.map(|product| product.form), Some(digits(6)));
     Ok(())
 }
 
@@ -117,6 +126,18 @@ fn ranges_are_tested(rt: HostRuntime) -> Result<(), Fail> {
 fn an_entry_ends_with_the_year_9999(rt: HostRuntime) -> Result<(), Fail> {
     let entry = entry(rt.alloc(), 253_402_300_799_999)?;
     assert!(rt; entry.is_proper());
+    Ok(())
+}
+
+#[test]
+fn an_entry_is_copied(rt: HostRuntime) -> Result<(), Fail> {
+    let mut kept = entry(rt.alloc(), 7)?;
+    kept.operator = Some(text(b"ann".as_slice())?);
+    kept.drawn.push(text(b"000005".as_slice())?)?;
+    let copy = kept.copy()?;
+    assert_eq!(rt; (copy.operator, copy.stamp), (kept.operator, 7));
+    assert_eq!(rt; copy.drawn.as_slice(), kept.drawn.as_slice());
+    assert!(rt; matches!(copy.deed, Deed::Start(_)));
     Ok(())
 }
 

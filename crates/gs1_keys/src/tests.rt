@@ -121,12 +121,22 @@ fn serials_keep_their_order(rt: HostRuntime) -> Result<(), Fail> {
 }
 
 #[test]
-fn digits_are_written(rt: HostRuntime) {
+fn numbers_are_written_in_a_form(rt: HostRuntime) -> Result<(), Fail> {
     let mut out = [0; 5];
-    write_digits(&mut out, 270);
+    Alphabet::Digits.write(&mut out, 270);
     assert_eq!(rt; out.as_slice(), b"00270".as_slice());
     assert_eq!(rt; first_not_digit(out.as_slice()), None);
     assert_eq!(rt; first_not_digit(b"12/4".as_slice()), Some(2));
+    let form = SerialForm {
+        alphabet: Alphabet::Base32,
+        length: 6,
+    };
+    let text = form.text(1_073_741_823);
+    assert_eq!(rt; text.bytes(), b"ZZZZZZ".as_slice());
+    assert_eq!(rt; form.text(33).bytes(), b"000011".as_slice());
+    assert_eq!(rt; (form.size(), form.half()), (1_073_741_824, 536_870_912));
+    assert!(rt; form.has(&text) && !form.has(&Text20::read(b"00000I".as_slice())?));
+    Ok(())
 }
 
 #[test]

@@ -1,15 +1,16 @@
 -- Laws of the new candidates of words.
-use Rattle.std.proofs.Common.{◌≡◌, ℕ, Bool, true, false, cond, List, [], ◌∷◌, ◌++◌, Option, None, Some, refl, sym, ap, ◌∙◌, append_assoc, append-nil, subst, not, ◌%◌, ◌^◌}
+use Rattle.std.proofs.Common.{◌≡◌, ℕ, Bool, true, false, cond, List, [], ◌∷◌, ◌++◌, Option, None, Some, refl, sym, ap, ◌∙◌, append_assoc, append-nil, subst, not, ◌%◌}
 use Rattle.std.specs.Prelude.{◌||◌, ◌&&◌, filter, bytes_eq, All, if◌then◌else◌, nat_lt}
 use Rattle.std.specs.List.{filter_map, cons_option}
 use Rattle.std.proofs.lemmas.List.Folds.{list_any-append}
 use Rattle.std.proofs.lemmas.List.Elements.{All-nil, All-cons, All-weaker, filter_passes}
 use Rattle.std.proofs.lemmas.Map.Keys.{IsDistinct-push}
 use Rattle.std.proofs.lemmas.Cmp.{nat_list_eq_equiv}
-use Rattle.gs1_keys.specs.Keys.{digits_of}
-use Rattle.serial_pool.specs.Drawing.{candidate, is_among, unless_among, firsts, fresh, words_end}
-use Rattle.serial_pool.specs.Held.{AreDistinct, is_serial}
-use Rattle.serial_pool.proofs.Texts.{is_serial-digits_of}
+use Rattle.gs1_keys.specs.declared.form.SerialForm.{SerialForm}
+use Rattle.gs1_keys.specs.Forms.{form_size, text_in}
+use Rattle.gs1_keys.proofs.Forming.{is_in_form-text_in}
+use Rattle.gs1_keys.specs.Forms.{is_among, AreDistinct, is_in_form}
+use Rattle.serial_pool.specs.Drawing.{candidate, unless_among, firsts, fresh, words_end}
 
 filter-filter : (p q : List ℕ → Bool) (xs : List (List ℕ)) → filter p (filter q xs) ≡ filter (λ x. q x && p x) xs
 filter-filter p q [] = refl
@@ -54,21 +55,21 @@ nor_again had s x known = (elim (bytes_eq s x) as (λ b. bytes_eq s x ≡ b → 
 ]) refl
 
 -- what words give, where the first of them gave this
-pub next_fresh : List (List ℕ) → ℕ → List ℕ → Option (List ℕ) → List (List ℕ)
-next_fresh had L words None = fresh had L words
-next_fresh had L words (Some s) = s ∷ fresh (had ++ s ∷ []) L words
+pub next_fresh : List (List ℕ) → SerialForm → List ℕ → Option (List ℕ) → List (List ℕ)
+next_fresh had form words None = fresh had form words
+next_fresh had form words (Some s) = s ∷ fresh (had ++ s ∷ []) form words
 
 -- one word less
-pub fresh-cons : (had : List (List ℕ)) (L word : ℕ) (words : List ℕ) → fresh had L (word ∷ words) ≡ next_fresh had L words (unless_among had (candidate L word))
+pub fresh-cons : (had : List (List ℕ)) (form : SerialForm) (word : ℕ) (words : List ℕ) → fresh had form (word ∷ words) ≡ next_fresh had form words (unless_among had (candidate form word))
 unfolding next_fresh
-fresh-cons had L word words =
-    let rest : List (List ℕ) = firsts (filter_map (candidate L) words) in
+fresh-cons had form word words =
+    let rest : List (List ℕ) = firsts (filter_map (candidate form) words) in
     let unknown : List ℕ → Bool = λ x. not (is_among had x) in
-    elim (candidate L word) as (λ o. filter unknown (firsts (cons_option o (filter_map (candidate L) words))) ≡ next_fresh had L words (unless_among had o)) [
+    elim (candidate form word) as (λ o. filter unknown (firsts (cons_option o (filter_map (candidate form) words))) ≡ next_fresh had form words (unless_among had o)) [
       | None ↦ refl
       | Some s ↦
           let others : List ℕ → Bool = λ x. not (bytes_eq s x) in
-          (elim (is_among had s) as (λ b. is_among had s ≡ b → cond (not b) (s ∷ filter unknown (filter others rest)) (filter unknown (filter others rest)) ≡ next_fresh had L words (if b then None else Some s)) [
+          (elim (is_among had s) as (λ b. is_among had s ≡ b → cond (not b) (s ∷ filter unknown (filter others rest)) (filter unknown (filter others rest)) ≡ next_fresh had form words (if b then None else Some s)) [
             | true ↦ λ e. filter-filter unknown others rest ∙ filter-alike _ unknown (λ x. nor_again had s x e) rest
             | false ↦ λ e. ap (λ (xs : List (List ℕ)). s ∷ xs) (filter-filter unknown others rest ∙ filter-alike _ (λ x. not (is_among (had ++ s ∷ []) x)) (neither had s) rest)
           ]) refl
@@ -87,36 +88,36 @@ unfolding listed
 listed-Some s = refl
 
 -- one word more
-pub fresh-push : (had : List (List ℕ)) (L : ℕ) (words : List ℕ) (word : ℕ) → fresh had L (words ++ word ∷ []) ≡ fresh had L words ++ listed (unless_among (had ++ fresh had L words) (candidate L word))
+pub fresh-push : (had : List (List ℕ)) (form : SerialForm) (words : List ℕ) (word : ℕ) → fresh had form (words ++ word ∷ []) ≡ fresh had form words ++ listed (unless_among (had ++ fresh had form words) (candidate form word))
 unfolding next_fresh listed
-fresh-push had L [] word =
-    fresh-cons had L word []
-    ∙ (elim (unless_among had (candidate L word)) as (λ o. next_fresh had L [] o ≡ listed o) [ None ↦ refl | Some s ↦ refl ])
-    ∙ ap (λ (xs : List (List ℕ)). listed (unless_among xs (candidate L word))) (sym (append-nil had))
-fresh-push had L (w ∷ words) word =
-    let ends : List (List ℕ) → List (List ℕ) = λ xs. xs ++ listed (unless_among (had ++ xs) (candidate L word)) in
-    fresh-cons had L w (words ++ word ∷ [])
-    ∙ (elim (unless_among had (candidate L w)) as (λ o. next_fresh had L (words ++ word ∷ []) o ≡ next_fresh had L words o ++ listed (unless_among (had ++ next_fresh had L words o) (candidate L word))) [
-      | None ↦ fresh-push had L words word
+fresh-push had form [] word =
+    fresh-cons had form word []
+    ∙ (elim (unless_among had (candidate form word)) as (λ o. next_fresh had form [] o ≡ listed o) [ None ↦ refl | Some s ↦ refl ])
+    ∙ ap (λ (xs : List (List ℕ)). listed (unless_among xs (candidate form word))) (sym (append-nil had))
+fresh-push had form (w ∷ words) word =
+    let ends : List (List ℕ) → List (List ℕ) = λ xs. xs ++ listed (unless_among (had ++ xs) (candidate form word)) in
+    fresh-cons had form w (words ++ word ∷ [])
+    ∙ (elim (unless_among had (candidate form w)) as (λ o. next_fresh had form (words ++ word ∷ []) o ≡ next_fresh had form words o ++ listed (unless_among (had ++ next_fresh had form words o) (candidate form word))) [
+      | None ↦ fresh-push had form words word
       | Some s ↦
-          ap (λ (xs : List (List ℕ)). s ∷ xs) (fresh-push (had ++ s ∷ []) L words word)
-          ∙ ap (λ (xs : List (List ℕ)). s ∷ (fresh (had ++ s ∷ []) L words ++ listed (unless_among xs (candidate L word)))) (append_assoc had (s ∷ []) (fresh (had ++ s ∷ []) L words))
+          ap (λ (xs : List (List ℕ)). s ∷ xs) (fresh-push (had ++ s ∷ []) form words word)
+          ∙ ap (λ (xs : List (List ℕ)). s ∷ (fresh (had ++ s ∷ []) form words ++ listed (unless_among xs (candidate form word)))) (append_assoc had (s ∷ []) (fresh (had ++ s ∷ []) form words))
     ])
-    ∙ sym (ap ends (fresh-cons had L w words))
+    ∙ sym (ap ends (fresh-cons had form w words))
 
 -- what words give stays where more words come
-pub fresh-append : (had : List (List ℕ)) (L : ℕ) (words more : List ℕ) → fresh had L (words ++ more) ≡ fresh had L words ++ fresh (had ++ fresh had L words) L more
+pub fresh-append : (had : List (List ℕ)) (form : SerialForm) (words more : List ℕ) → fresh had form (words ++ more) ≡ fresh had form words ++ fresh (had ++ fresh had form words) form more
 unfolding next_fresh
-fresh-append had L [] more = ap (λ (xs : List (List ℕ)). fresh xs L more) (sym (append-nil had))
-fresh-append had L (w ∷ words) more =
-    fresh-cons had L w (words ++ more)
-    ∙ (elim (unless_among had (candidate L w)) as (λ o. next_fresh had L (words ++ more) o ≡ next_fresh had L words o ++ fresh (had ++ next_fresh had L words o) L more) [
-      | None ↦ fresh-append had L words more
+fresh-append had form [] more = ap (λ (xs : List (List ℕ)). fresh xs form more) (sym (append-nil had))
+fresh-append had form (w ∷ words) more =
+    fresh-cons had form w (words ++ more)
+    ∙ (elim (unless_among had (candidate form w)) as (λ o. next_fresh had form (words ++ more) o ≡ next_fresh had form words o ++ fresh (had ++ next_fresh had form words o) form more) [
+      | None ↦ fresh-append had form words more
       | Some s ↦
-          ap (λ (xs : List (List ℕ)). s ∷ xs) (fresh-append (had ++ s ∷ []) L words more)
-          ∙ ap (λ (xs : List (List ℕ)). s ∷ (fresh (had ++ s ∷ []) L words ++ fresh xs L more)) (append_assoc had (s ∷ []) (fresh (had ++ s ∷ []) L words))
+          ap (λ (xs : List (List ℕ)). s ∷ xs) (fresh-append (had ++ s ∷ []) form words more)
+          ∙ ap (λ (xs : List (List ℕ)). s ∷ (fresh (had ++ s ∷ []) form words ++ fresh xs form more)) (append_assoc had (s ∷ []) (fresh (had ++ s ∷ []) form words))
     ])
-    ∙ sym (ap (λ (xs : List (List ℕ)). xs ++ fresh (had ++ xs) L more) (fresh-cons had L w words))
+    ∙ sym (ap (λ (xs : List (List ℕ)). xs ++ fresh (had ++ xs) form more) (fresh-cons had form w words))
 
 -- what a word gives is its candidate, and not among those
 given : (had : List (List ℕ)) (o : Option (List ℕ)) (s : List ℕ) → unless_among had o ≡ Some s → (o ≡ Some s) × (is_among had s ≡ false)
@@ -127,39 +128,39 @@ given had (Some t) s e = (elim (is_among had t) as (λ b. is_among had t ≡ b �
 ]) refl e
 
 -- what words give is new, and comes once
-pub fresh-once : (had : List (List ℕ)) (L : ℕ) (words : List ℕ) → AreDistinct had → AreDistinct (had ++ fresh had L words)
+pub fresh-once : (had : List (List ℕ)) (form : SerialForm) (words : List ℕ) → AreDistinct had → AreDistinct (had ++ fresh had form words)
 unfolding next_fresh
-fresh-once had L [] once = subst AreDistinct (sym (append-nil had)) once
-fresh-once had L (w ∷ words) once =
-    subst (λ (xs : List (List ℕ)). AreDistinct (had ++ xs)) (sym (fresh-cons had L w words))
-    ((elim (unless_among had (candidate L w)) as (λ o. unless_among had (candidate L w) ≡ o → AreDistinct (had ++ next_fresh had L words o)) [
-      | None ↦ λ e. fresh-once had L words once
+fresh-once had form [] once = subst AreDistinct (sym (append-nil had)) once
+fresh-once had form (w ∷ words) once =
+    subst (λ (xs : List (List ℕ)). AreDistinct (had ++ xs)) (sym (fresh-cons had form w words))
+    ((elim (unless_among had (candidate form w)) as (λ o. unless_among had (candidate form w) ≡ o → AreDistinct (had ++ next_fresh had form words o)) [
+      | None ↦ λ e. fresh-once had form words once
       | Some s ↦ λ e.
-          let absent : is_among had s ≡ false = (given had (candidate L w) s e).1 in
-          subst AreDistinct (append_assoc had (s ∷ []) (fresh (had ++ s ∷ []) L words)) (fresh-once (had ++ s ∷ []) L words (IsDistinct-push nat_list_eq_equiv had s once absent))
+          let absent : is_among had s ≡ false = (given had (candidate form w) s e).1 in
+          subst AreDistinct (append_assoc had (s ∷ []) (fresh (had ++ s ∷ []) form words)) (fresh-once (had ++ s ∷ []) form words (IsDistinct-push nat_list_eq_equiv had s once absent))
     ]) refl)
 
 not_false : (b : Bool) → not b ≡ true → b ≡ false
 not_false true e = absurd cc
 not_false false e = refl
 
-pub fresh-unknown : (had : List (List ℕ)) (L : ℕ) (words : List ℕ) → All (λ s. is_among had s ≡ false) (fresh had L words)
-fresh-unknown had L words =
-    All-weaker (λ x. not (is_among had x) ≡ true) (λ x. is_among had x ≡ false) (λ x e. not_false (is_among had x) e) (fresh had L words)
-    (filter_passes (λ x. not (is_among had x)) (firsts (filter_map (candidate L) words)))
+pub fresh-unknown : (had : List (List ℕ)) (form : SerialForm) (words : List ℕ) → All (λ s. is_among had s ≡ false) (fresh had form words)
+fresh-unknown had form words =
+    All-weaker (λ x. not (is_among had x) ≡ true) (λ x. is_among had x ≡ false) (λ x e. not_false (is_among had x) e) (fresh had form words)
+    (filter_passes (λ x. not (is_among had x)) (firsts (filter_map (candidate form) words)))
 
-candidate_is : (L word : ℕ) (s : List ℕ) → candidate L word ≡ Some s → is_serial L s ≡ true
-candidate_is L word s = elim (nat_lt word (words_end L)) as (λ b. (if b then Some (digits_of L (word % 10 ^ L)) else None) ≡ Some s → is_serial L s ≡ true) [
-  | true ↦ λ e. let same : digits_of L (word % 10 ^ L) ≡ s = cc in subst (λ x. is_serial L x ≡ true) same (is_serial-digits_of L (word % 10 ^ L))
+candidate_is : (form : SerialForm) (word : ℕ) (s : List ℕ) → candidate form word ≡ Some s → is_in_form form s ≡ true
+candidate_is form word s = elim (nat_lt word (words_end form)) as (λ b. (if b then Some (text_in form (word % form_size form)) else None) ≡ Some s → is_in_form form s ≡ true) [
+  | true ↦ λ e. let same : text_in form (word % form_size form) ≡ s = cc in subst (λ x. is_in_form form x ≡ true) same (is_in_form-text_in form (word % form_size form))
   | false ↦ λ e. absurd cc
 ]
 
-pub fresh-serials : (had : List (List ℕ)) (L : ℕ) (words : List ℕ) → All (λ s. is_serial L s ≡ true) (fresh had L words)
+pub fresh-serials : (had : List (List ℕ)) (form : SerialForm) (words : List ℕ) → All (λ s. is_in_form form s ≡ true) (fresh had form words)
 unfolding next_fresh
-fresh-serials had L [] = All-nil (λ x. is_serial L x ≡ true)
-fresh-serials had L (w ∷ words) =
-    subst (All (λ s. is_serial L s ≡ true)) (sym (fresh-cons had L w words))
-    ((elim (unless_among had (candidate L w)) as (λ o. unless_among had (candidate L w) ≡ o → All (λ s. is_serial L s ≡ true) (next_fresh had L words o)) [
-      | None ↦ λ e. fresh-serials had L words
-      | Some s ↦ λ e. All-cons (λ x. is_serial L x ≡ true) s (fresh (had ++ s ∷ []) L words) (candidate_is L w s (given had (candidate L w) s e).0) (fresh-serials (had ++ s ∷ []) L words)
+fresh-serials had form [] = All-nil (λ x. is_in_form form x ≡ true)
+fresh-serials had form (w ∷ words) =
+    subst (All (λ s. is_in_form form s ≡ true)) (sym (fresh-cons had form w words))
+    ((elim (unless_among had (candidate form w)) as (λ o. unless_among had (candidate form w) ≡ o → All (λ s. is_in_form form s ≡ true) (next_fresh had form words o)) [
+      | None ↦ λ e. fresh-serials had form words
+      | Some s ↦ λ e. All-cons (λ x. is_in_form form x ≡ true) s (fresh (had ++ s ∷ []) form words) (candidate_is form w s (given had (candidate form w) s e).0) (fresh-serials (had ++ s ∷ []) form words)
     ]) refl)

@@ -7,10 +7,11 @@ use Rattle.std.proofs.lemmas.List.{length-map, map-append}
 use Rattle.std.proofs.lemmas.Slice.Eq.{bytes_eq-Decides}
 use Rattle.std.proofs.lemmas.Cmp.{nat_list_eq_equiv}
 use Rattle.std.proofs.lemmas.Map.Keys.{IsDistinct-push, IsDistinct-head, IsDistinct-tail}
+use Rattle.gs1_keys.specs.declared.form.SerialForm.{SerialForm}
+use Rattle.gs1_keys.specs.Forms.{is_among, AreDistinct, AreNew}
 use Rattle.serial_pool.proofs.Fresh.{neither_of}
 use Rattle.serial_pool.specs.declared.drawn.DrawnSerial.{DrawnSerial}
-use Rattle.serial_pool.specs.Drawing.{is_among}
-use Rattle.serial_pool.specs.Held.{had_of, drawn_count, drawn_for, AreDistinct, AreNew, DrawnOnce, IsPool, PlanView, IsPlanFor}
+use Rattle.serial_pool.specs.Held.{had_of, drawn_count, drawn_for, DrawnOnce, IsPool, PlanView, IsPlanFor}
 
 pub drawn_count_is : (gtin : List ℕ) (pairs : List DrawnSerial) → length (filter (λ pair. bytes_eq gtin pair.gtin) pairs) ≡ drawn_count gtin pairs
 drawn_count_is gtin pairs = sym (length-map (filter (λ pair. bytes_eq gtin pair.gtin) pairs) (λ (pair : DrawnSerial). pair.serial))
@@ -109,8 +110,8 @@ committed pairs new plan spare left capacity capacity' pool made e same room =
     }
 
 -- what is new for a GTIN may be committed
-pub made_for : (pairs now : List DrawnSerial) (plan : PlanView) (gtin : List ℕ) (L n : ℕ) → now ≡ pairs → plan.gtin ≡ gtin → AreNew (had_of gtin pairs) L plan.serials → length plan.serials ≡ n → drawn_count gtin pairs + n < 2 ^ 32 → IsPlanFor now plan
-made_for pairs now plan gtin L n same own new size few =
+pub made_for : (pairs now : List DrawnSerial) (plan : PlanView) (gtin : List ℕ) (form : SerialForm) (n : ℕ) → now ≡ pairs → plan.gtin ≡ gtin → AreNew (had_of gtin pairs) form plan.serials → length plan.serials ≡ n → drawn_count gtin pairs + n < 2 ^ 32 → IsPlanFor now plan
+made_for pairs now plan gtin form n same own new size few =
     let had : had_of plan.gtin now ≡ had_of gtin pairs = ap (λ (xs : List DrawnSerial). had_of plan.gtin xs) same ∙ ap (λ g. had_of g pairs) own in
     record {
       unknown = subst (λ (xs : List (List ℕ)). All (λ serial. is_among xs serial ≡ false) plan.serials) (sym had) new.unknown;

@@ -1,4 +1,3 @@
-pub mod Texts
 pub mod Fresh
 pub mod Sofar
 pub mod Told

@@ -1,9 +1,8 @@
 -- What a pool holds: the serials that were drawn, each with its GTIN.
-use Rattle.std.specs.Prelude.{◌≡◌, ◌+◌, ◌<◌, ◌≤◌, ◌^◌, ℕ, Bool, true, false, not, List, length, map, filter, bytes_eq, All, ◌&&◌, ◌==◌}
-use Rattle.std.specs.List.{IsDistinct, list_all}
-use Rattle.gs1_keys.specs.Keys.{is_digit}
+use Rattle.std.specs.Prelude.{◌≡◌, ◌+◌, ◌<◌, ◌≤◌, ◌^◌, ℕ, Bool, false, not, List, length, map, filter, bytes_eq, All, ◌&&◌}
+use Rattle.gs1_keys.specs.declared.form.SerialForm.{SerialForm}
+use Rattle.gs1_keys.specs.Forms.{is_among, is_in_form, AreDistinct}
 use Rattle.serial_pool.specs.declared.drawn.DrawnSerial.{DrawnSerial}
-use Rattle.serial_pool.specs.Drawing.{is_among}
 
 -- the serials in the order in which they were drawn, and for how many more there is room
 pub record PoolView : Type 0 where
@@ -27,27 +26,13 @@ drawn_count gtin pairs = length (had_of gtin pairs)
 abbrev pub drawn_for : List ℕ → List (List ℕ) → List DrawnSerial
 drawn_for gtin serials = map (λ serial. record { gtin = gtin; serial = serial }) serials
 
--- no serial stands twice
-abbrev pub AreDistinct : List (List ℕ) → Type 0
-AreDistinct serials = IsDistinct bytes_eq serials
-
 -- no serial of any GTIN was drawn twice
 abbrev pub DrawnOnce : List DrawnSerial → Type 0
 DrawnOnce pairs = (gtin : List ℕ) → AreDistinct (had_of gtin pairs)
 
--- a text of L digits
-abbrev pub is_serial : ℕ → List ℕ → Bool
-is_serial L text = (length text == L) && list_all is_digit text
-
--- the serial of L digits may be drawn beside those that were and behind these
-abbrev pub may_follow : List (List ℕ) → ℕ → List (List ℕ) → List ℕ → Bool
-may_follow had L serials serial = is_serial L serial && not (is_among had serial) && not (is_among serials serial)
-
--- serials of L digits that may be drawn beside those that were: none was, and none stands twice
-pub record AreNew (had : List (List ℕ)) (L : ℕ) (serials : List (List ℕ)) : Type 0 where
-  pub formed : All (λ serial. is_serial L serial ≡ true) serials
-  pub unknown : All (λ serial. is_among had serial ≡ false) serials
-  pub distinct : AreDistinct serials
+-- the serial of the form may be drawn beside those that were and behind these
+abbrev pub may_follow : List (List ℕ) → SerialForm → List (List ℕ) → List ℕ → Bool
+may_follow had form serials serial = is_in_form form serial && not (is_among had serial) && not (is_among serials serial)
 
 -- the plan may be committed where so much was drawn: its serials are new for its GTIN, and that stays below 2 ^ 32
 pub record IsPlanFor (pairs : List DrawnSerial) (plan : PlanView) : Type 0 where

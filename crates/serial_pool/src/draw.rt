@@ -1,5 +1,6 @@
 //! Drawing serials from random words.
-ghost use Rattle.std.specs.Prelude.{◌≡◌, ◌++◌, ◌≤◌, IfOk};
+ghost use Rattle.std.specs.Prelude.{◌≡◌, ◌++◌, true, IfOk};
+ghost use Rattle.gs1_keys.specs.Forms.{is_form};
 ghost use Rattle.outside.specs.Causes.{HasCauseIf};
 ghost use Rattle.outside.specs.Devices.{Takes};
 ghost use Rattle.serial_pool.specs.Drawing.{candidate, unless_among};
@@ -10,7 +11,7 @@ use crate::candidate::candidate_of;
 use crate::drawn::{DrawnSerial, is_in, was_drawn};
 use crate::fault::DrawFault;
 use crate::plan::DrawPlan;
-use gs1_keys::{Gtin, Serials, Text20};
+use gs1_keys::{Gtin, SerialForm, Serials, Text20};
 use outside::Words;
 use std::alloc::Global;
 
@@ -19,14 +20,13 @@ fn new_serial(
     drawn: &[DrawnSerial],
     serials: &Serials,
     gtin: &Gtin,
-    digits: u8,
+    form: &SerialForm,
     word: u64,
 ) -> Option<Text20>
-    requires some { 1 ≤ digits }
-    requires few { digits ≤ 18 }
-    ensures { result ≡ unless_among (had_of gtin.now drawn.now ++ serials.now) (candidate digits word) }
+    requires form { is_form form.now ≡ true }
+    ensures { result ≡ unless_among (had_of gtin.now drawn.now ++ serials.now) (candidate form.now word) }
 {
-    match candidate_of(word, digits) {
+    match candidate_of(word, form) {
         Some(serial) => {
             if was_drawn(drawn, gtin, &serial) || is_in(serials, &serial) {
                 None
@@ -38,19 +38,18 @@ fn new_serial(
     }
 }
 
-/// Draws so many new serials of so many digits for the GTIN, each word's in turn.
+/// Draws so many new serials of the form for the GTIN, each word's in turn.
 pub(crate) fn draw<W: Words>(
     alloc: Global,
     drawn: &[DrawnSerial],
     gtin: &Gtin,
-    digits: u8,
+    form: &SerialForm,
     count: u32,
     words: &mut W,
 ) -> Result<DrawPlan, DrawFault>
-    requires some { 1 ≤ digits }
-    requires few { digits ≤ 18 }
-    requires ample { IsAmple (had_of gtin.now drawn.now) digits count }
-    ensures draw { Takes (W.words_left words.old) (W.words_left words.new) (λ taken. DrawEnds (had_of gtin.now drawn.now) digits count taken result) }
+    requires form { is_form form.now ≡ true }
+    requires ample { IsAmple (had_of gtin.now drawn.now) form.now count }
+    ensures draw { Takes (W.words_left words.old) (W.words_left words.new) (λ taken. DrawEnds (had_of gtin.now drawn.now) form.now count taken result) }
     ensures cause { HasCauseIf (is_words_fault result) (W.word_faults words.old) (W.word_faults words.new) }
     ensures gtin { IfOk result (λ plan. plan.gtin ≡ gtin.now) }
 {
@@ -66,7 +65,7 @@ pub(crate) fn draw<W: Words>(
             return Err(DrawFault::WordsFault);
         };
         used += 1;
-        if let Some(serial) = new_serial(drawn, &serials, gtin, digits, word) {
+        if let Some(serial) = new_serial(drawn, &serials, gtin, form, word) {
             serials.push(serial)?;
             found += 1;
         }

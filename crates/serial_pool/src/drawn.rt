@@ -1,6 +1,6 @@
 //! The serials that were drawn, as a list.
 ghost use Rattle.std.specs.Prelude.{◌≡◌, ◌+◌, ◌≤◌, ◌++◌, bytes_eq, filter, length, vec_len, vec_capacity};
-ghost use Rattle.serial_pool.specs.Drawing.{is_among};
+ghost use Rattle.gs1_keys.specs.Forms.{is_among};
 ghost use Rattle.serial_pool.specs.Held.{had_of, drawn_for};
 
 use gs1_keys::{Gtin, Serials, Text20};

@@ -19,7 +19,7 @@ pub enum DrawFault {
 /// Why known serials can't be planned.
 #[derive(Clone, Copy, Debug, PartialEq, Eq)]
 pub enum KnownFault {
-    /// The serial at this place, the first such, isn't of so many digits, was drawn already, or came earlier.
+    /// The serial at this place, the first such, isn't of the form, was drawn already, or came earlier.
     NotNew(u64),
     /// No memory was found.
     Memory,

@@ -1,4 +1,4 @@
-//! Draws serials for GTINs from random words: of so many digits, at random, and never twice for a GTIN.
+//! Draws serials for GTINs from random words: of a product's form, at random, and never twice for a GTIN.
 //!
 //! Serials are first planned, which looks for them and makes room, and then committed, which can't fail.
 #![tactic(auto)]
@@ -12,7 +12,6 @@ mod laws;
 mod plan;
 mod pool;
 
-pub use candidate::serial_count;
 pub use drawn::DrawnSerial;
 pub use fault::{DrawFault, KnownFault};
 pub use laws::{commits_once, draws_new, takes_the_first};

@@ -1,19 +1,18 @@
 //! The pool of the serials that were drawn.
-ghost use Rattle.std.specs.Prelude.{◌≡◌, ◌≢◌, ◌+◌, ◌^◌, ◌<◌, ◌≤◌, ◌++◌, ℕ, List, [], length as count_of, All, IfOk, OnOk};
+ghost use Rattle.std.specs.Prelude.{◌≡◌, ◌≢◌, ◌+◌, ◌^◌, ◌<◌, ◌≤◌, ◌++◌, ℕ, List, [], length as count_of, All, true, IfOk, OnOk};
 ghost use Rattle.gs1_keys.specs.Keys.{IsText};
+ghost use Rattle.gs1_keys.specs.Forms.{is_among, is_form, AreNew};
 ghost use Rattle.outside.specs.Causes.{HasCauseIf};
 ghost use Rattle.outside.specs.Devices.{Takes};
-ghost use Rattle.serial_pool.specs.Drawing.{is_among};
 ghost use Rattle.serial_pool.specs.Ends.{DrawEnds, KnownEnds, is_words_fault};
-ghost use Rattle.serial_pool.specs.Held.{had_of, drawn_count, drawn_for, AreNew, DrawnOnce, IsPlanFor, HasRoomFor};
+ghost use Rattle.serial_pool.specs.Held.{had_of, drawn_count, drawn_for, DrawnOnce, IsPlanFor, HasRoomFor};
 
-use crate::candidate::serial_count;
 use crate::draw::draw;
 use crate::drawn::{DrawnSerial, append, count_drawn, was_drawn};
 use crate::fault::{DrawFault, KnownFault};
 use crate::known::know;
 use crate::plan::DrawPlan;
-use gs1_keys::{Gtin, Memory, Serials, Text20};
+use gs1_keys::{Gtin, Memory, SerialForm, Serials, Text20};
 use outside::Words;
 use std::alloc::Global;
 use std::marker::Model;
@@ -51,7 +50,7 @@ impl Pool {
         }
     }
 
-    /// Looks for so many new serials of so many digits, 6 to 18, in the words to come, and makes room for them.
+    /// Looks for so many new serials of the form in the words to come, and makes room for them.
     /// What was drawn stays; words that were taken are gone, whatever the answer.
     ///
     /// # Errors
@@ -62,17 +61,16 @@ impl Pool {
     pub fn plan_draw<W: Words>(
         &mut self,
         gtin: &Gtin,
-        length: u8,
+        form: &SerialForm,
         words: &mut W,
         count: u32,
     ) -> Result<DrawPlan, DrawFault>
-        requires short { 6 ≤ length }
-        requires long { length ≤ 18 }
+        requires form { is_form form.now ≡ true }
         requires some { 1 ≤ count }
         requires few { drawn_count gtin.now self.old.drawn + count < 2 ^ 32 }
-        ensures draw { Takes (W.words_left words.old) (W.words_left words.new) (λ taken. DrawEnds (had_of gtin.now self.old.drawn) length count taken result) }
+        ensures draw { Takes (W.words_left words.old) (W.words_left words.new) (λ taken. DrawEnds (had_of gtin.now self.old.drawn) form.now count taken result) }
         ensures cause { HasCauseIf (is_words_fault result) (W.word_faults words.old) (W.word_faults words.new) }
-        ensures new { IfOk result (λ plan. AreNew (had_of gtin.now self.old.drawn) length plan.serials) }
+        ensures new { IfOk result (λ plan. AreNew (had_of gtin.now self.old.drawn) form.now plan.serials) }
         ensures texts { IfOk result (λ plan. All IsText plan.serials) }
         ensures gtin { IfOk result (λ plan. plan.gtin ≡ gtin.now) }
         ensures made_for { IfOk result (λ plan. IsPlanFor self.new.drawn plan) }
@@ -82,46 +80,38 @@ impl Pool {
     {
         let have = u64::from(self.drawn(gtin));
         let asked = u64::from(count);
-        let half = serial_count(length) / 2;
+        let half = form.half();
         if have + asked > half {
             return Err(DrawFault::PoolThin(have, asked, half));
         }
-        let plan = draw(
-            self.alloc,
-            self.drawn.as_slice(),
-            gtin,
-            length,
-            count,
-            words,
-        )?;
+        let plan = draw(self.alloc, self.drawn.as_slice(), gtin, form, count, words)?;
         self.make_room(plan.serials.len())?;
         Ok(plan)
     }
 
-    /// Plans serials that were drawn before, as a journal gives them back, each of so many digits, 6 to 18, and makes
+    /// Plans serials that were drawn before, as a journal gives them back, each of the form, and makes
     /// room for them. What was drawn stays.
     ///
     /// # Errors
     ///
-    /// `NotNew` with the place of the first serial that isn't of so many digits, was drawn already for the GTIN, or
+    /// `NotNew` with the place of the first serial that isn't of the form, was drawn already for the GTIN, or
     /// came earlier in the list. `Memory` where no memory was found.
     pub fn plan_known(
         &mut self,
         gtin: &Gtin,
-        length: u8,
+        form: &SerialForm,
         serials: &Serials,
     ) -> Result<DrawPlan, KnownFault>
-        requires short { 6 ≤ length }
-        requires long { length ≤ 18 }
+        requires form { is_form form.now ≡ true }
         requires few { drawn_count gtin.now self.old.drawn + count_of serials.now < 2 ^ 32 }
-        ensures known { KnownEnds (had_of gtin.now self.old.drawn) length serials.now result }
+        ensures known { KnownEnds (had_of gtin.now self.old.drawn) form.now serials.now result }
         ensures gtin { IfOk result (λ plan. plan.gtin ≡ gtin.now) }
         ensures made_for { IfOk result (λ plan. IsPlanFor self.new.drawn plan) }
         ensures room { IfOk result (λ plan. HasRoomFor self.new plan) }
         ensures drawn { self.new.drawn ≡ self.old.drawn }
         ensures kept { self.old.room ≤ self.new.room }
     {
-        let plan = know(self.alloc, self.drawn.as_slice(), gtin, length, serials)?;
+        let plan = know(self.alloc, self.drawn.as_slice(), gtin, form, serials)?;
         self.make_room(plan.serials.len())?;
         Ok(plan)
     }

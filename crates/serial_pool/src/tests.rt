@@ -1,11 +1,24 @@
-ghost use Rattle.std.specs.Prelude.{◌<◌, ◌≤◌, ◌^◌, IfOk};
+ghost use Rattle.std.specs.Prelude.{◌≡◌, ◌<◌, ◌≤◌, ◌^◌, true, IfOk};
+ghost use Rattle.gs1_keys.specs.Forms.{is_form};
 ghost use Rattle.serial_pool.specs.Held.{IsPlanFor, HasRoomFor};
 
 use super::*;
-use gs1_keys::{Gtin, Serials, Text20};
+use gs1_keys::{Alphabet, Gtin, SerialForm, Serials, Text20};
 use outside::{MemoryWords, Words};
 use std::alloc::{AllocError, Global};
 use std::test::Fail;
+
+/// Serials of 6 digits.
+const SIX_DIGITS: SerialForm = SerialForm {
+    alphabet: Alphabet::Digits,
+    length: 6,
+};
+
+/// Serials of 10 digits.
+const TEN_DIGITS: SerialForm = SerialForm {
+    alphabet: Alphabet::Digits,
+    length: 10,
+};
 
 /// Words in memory, of which the calls of these numbers fail.
 fn words_of(alloc: Global, words: &[u64], failing: &[u64]) -> Result<MemoryWords, AllocError> {
@@ -16,12 +29,11 @@ fn words_of(alloc: Global, words: &[u64], failing: &[u64]) -> Result<MemoryWords
 fn draw_from(
     pool: &mut Pool,
     gtin: &Gtin,
-    length: u8,
+    form: &SerialForm,
     words: &mut MemoryWords,
     count: u32,
 ) -> Result<DrawPlan, DrawFault>
-    requires short { 6 ≤ length }
-    requires long { length ≤ 18 }
+    requires form { is_form form.now ≡ true }
     requires some { 1 ≤ count }
     requires few { count < 2 ^ 31 }
     ensures made_for { IfOk result (λ plan. IsPlanFor pool.new.drawn plan) }
@@ -30,7 +42,7 @@ fn draw_from(
     if pool.drawn(gtin) > 1_000_000 {
         return Err(DrawFault::Memory);
     }
-    pool.plan_draw(gtin, length, words, count)
+    pool.plan_draw(gtin, form, words, count)
 }
 
 /// A plan of known serials for a pool of which little was drawn.
@@ -52,7 +64,7 @@ fn known_to(
     if pool.drawn(gtin) > 1_000_000 || serials.len() > 1_000_000 {
         return Err(KnownFault::Memory);
     }
-    pool.plan_known(gtin, 10, &serials)
+    pool.plan_known(gtin, &TEN_DIGITS, &serials)
 }
 
 /// Whether these are the serials, in order.
@@ -69,7 +81,7 @@ fn half_of_the_serials_are_left(rt: HostRuntime) -> Result<(), Fail> {
     let gtin = Gtin::read(b"80614141123458")?;
     let mut pool = Pool::new(rt.alloc());
     let mut words = words_of(rt.alloc(), &[7], &[])?;
-    let thin = draw_from(&mut pool, &gtin, 6, &mut words, 500_001);
+    let thin = draw_from(&mut pool, &gtin, &SIX_DIGITS, &mut words, 500_001);
     assert_eq!(rt; thin.err(), Some(DrawFault::PoolThin(0, 500_001, 500_000)));
     assert_eq!(rt; words.next_word(), Ok(7));
     Ok(())
@@ -81,11 +93,26 @@ fn a_word_at_the_bound_and_a_repeat_are_passed_over(rt: HostRuntime) -> Result<(
     let mut pool = Pool::new(rt.alloc());
     let told = [18_446_744_073_709_000_000, 5, 1_000_005, 7];
     let mut words = words_of(rt.alloc(), &told, &[])?;
-    let plan = draw_from(&mut pool, &gtin, 6, &mut words, 2)?;
+    let plan = draw_from(&mut pool, &gtin, &SIX_DIGITS, &mut words, 2)?;
     assert!(rt; are(plan.serials(), &["000005", "000007"]));
     assert!(rt; words.next_word().is_err());
     let copy = copied(rt.alloc(), plan.serials())?;
     assert!(rt; are(&copy, &["000005", "000007"]));
+    Ok(())
+}
+
+#[test]
+fn serials_of_letters_and_digits(rt: HostRuntime) -> Result<(), Fail> {
+    let gtin = Gtin::read(b"80614141123458")?;
+    let form = SerialForm {
+        alphabet: Alphabet::Base32,
+        length: 6,
+    };
+    let mut pool = Pool::new(rt.alloc());
+    let told = [18_446_744_073_709_551_615, 1_073_741_857];
+    let mut words = words_of(rt.alloc(), &told, &[])?;
+    let plan = draw_from(&mut pool, &gtin, &form, &mut words, 2)?;
+    assert!(rt; are(plan.serials(), &["ZZZZZZ", "000011"]));
     Ok(())
 }
 
@@ -95,7 +122,7 @@ fn known_serials_are_drawn_once(rt: HostRuntime) -> Result<(), Fail> {
     let gtin = Gtin::read(b"00614141123452")?;
     let mut pool = Pool::new(alloc);
     let mut words = words_of(alloc, &[1, 2, 3, 4], &[])?;
-    let plan = draw_from(&mut pool, &gtin, 10, &mut words, 4)?;
+    let plan = draw_from(&mut pool, &gtin, &TEN_DIGITS, &mut words, 4)?;
     assert!(rt;
         are(
             plan.serials(),
@@ -129,13 +156,13 @@ fn words_are_spent(rt: HostRuntime) -> Result<(), Fail> {
     let gtin = Gtin::read(b"80614141123458")?;
     let mut pool = Pool::new(alloc);
     let mut words = words_of(alloc, &[5; 69], &[])?;
-    let plan = draw_from(&mut pool, &gtin, 6, &mut words, 1)?;
+    let plan = draw_from(&mut pool, &gtin, &SIX_DIGITS, &mut words, 1)?;
     pool.commit_draw(plan);
-    let spent = draw_from(&mut pool, &gtin, 6, &mut words, 1);
+    let spent = draw_from(&mut pool, &gtin, &SIX_DIGITS, &mut words, 1);
     assert_eq!(rt; spent.err(), Some(DrawFault::WordsSpent(0)));
     assert!(rt; words.next_word().is_err());
     let mut words = words_of(alloc, &[9], &[])?;
-    let plan = draw_from(&mut pool, &gtin, 6, &mut words, 1)?;
+    let plan = draw_from(&mut pool, &gtin, &SIX_DIGITS, &mut words, 1)?;
     assert!(rt; are(plan.serials(), &["000009"]));
     Ok(())
 }
@@ -145,10 +172,10 @@ fn a_word_fails_in_mid_draw(rt: HostRuntime) -> Result<(), Fail> {
     let gtin = Gtin::read(b"80614141123458")?;
     let mut pool = Pool::new(rt.alloc());
     let mut words = words_of(rt.alloc(), &[1, 2, 3], &[2])?;
-    let failed = draw_from(&mut pool, &gtin, 6, &mut words, 2);
+    let failed = draw_from(&mut pool, &gtin, &SIX_DIGITS, &mut words, 2);
     assert_eq!(rt; failed.err(), Some(DrawFault::WordsFault));
     assert_eq!(rt; pool.drawn(&gtin), 0);
-    let plan = draw_from(&mut pool, &gtin, 6, &mut words, 2)?;
+    let plan = draw_from(&mut pool, &gtin, &SIX_DIGITS, &mut words, 2)?;
     assert!(rt; are(plan.serials(), &["000002", "000003"]));
     Ok(())
 }
@@ -159,12 +186,12 @@ fn each_gtin_has_its_own(rt: HostRuntime) -> Result<(), Fail> {
     let other = Gtin::read(b"00614141123452")?;
     let mut pool = Pool::new(rt.alloc());
     let mut words = words_of(rt.alloc(), &[8, 8, 8, 9], &[])?;
-    let plan = draw_from(&mut pool, &one, 6, &mut words, 1)?;
+    let plan = draw_from(&mut pool, &one, &SIX_DIGITS, &mut words, 1)?;
     pool.commit_draw(plan);
-    let plan = draw_from(&mut pool, &other, 6, &mut words, 1)?;
+    let plan = draw_from(&mut pool, &other, &SIX_DIGITS, &mut words, 1)?;
     assert!(rt; are(plan.serials(), &["000008"]));
     pool.commit_draw(plan);
-    let plan = draw_from(&mut pool, &one, 6, &mut words, 1)?;
+    let plan = draw_from(&mut pool, &one, &SIX_DIGITS, &mut words, 1)?;
     assert!(rt; are(plan.serials(), &["000009"]));
     pool.commit_draw(plan);
     assert_eq!(rt; (pool.drawn(&one), pool.drawn(&other)), (2, 1));

@@ -1,5 +1,5 @@
 //! The rows of an order file.
-ghost use Rattle.std.specs.Prelude.{◌≡◌, ◌<◌, [], ◌∷◌, ◌++◌, length, slice_index_or, is_ok, if◌then◌else◌};
+ghost use Rattle.std.specs.Prelude.{◌≡◌, ◌<◌, [], ◌∷◌, ◌++◌, length, slice_index_or, is_ok, if◌then◌else◌, IfOk};
 
 use crate::OrderRow;
 use gs1_keys::Memory;
@@ -61,5 +61,15 @@ impl Rows {
         ensures { result.now ≡ self.now }
     {
         self.items.as_slice()
+    }
+
+    /// An equal list.
+    pub fn copy(&self) -> Result<Self, Memory>
+        ensures { IfOk result (λ copy. copy ≡ self.now) }
+    {
+        match self.items.clone() {
+            Ok(items) => Ok(Rows { items }),
+            Err(_) => Err(Memory),
+        }
     }
 }

@@ -8,13 +8,13 @@ use Rattle.serial_pool.proofs.draw.draw.Goals as goal
 pub returns-in_err-push-clause-draw : goal.returns-in_err-push-clause-draw
 returns-in_err-push-clause-draw g c =
     let p = err_from_is_err_and c.from_residual.result c.from_residual.ensures.1 in
-    rw (p.1, p.2) (one_more_any _ _ _ (had_of c.args.gtin.now c.args.drawn.now) c.args.digits c.args.count c.loop-found.serials c.loop-found.used c.in-Ok.word _ c.loop-found.invariant.sofar c.in-Ok.ensures.word (omega arith))
+    rw (p.1, p.2) (one_more_any _ _ _ (had_of c.args.gtin.now c.args.drawn.now) c.args.form.now c.args.count c.loop-found.serials c.loop-found.used c.in-Ok.word _ c.loop-found.invariant.sofar c.in-Ok.ensures.word (omega arith))
 
 pub loop-found-preserved-in-Some : goal.loop-found-preserved-in-Some
 loop-found-preserved-in-Some g c =
     let few : length c.loop-found.serials < c.args.count = omega arith in
     record {
-      sofar = rw c.in_ok-push.ensures (one_more_new _ _ _ (had_of c.args.gtin.now c.args.drawn.now) c.args.digits c.args.count c.loop-found.serials c.loop-found.used c.in-Ok.word c.in-Some.serial c.loop-found.invariant.sofar c.in-Ok.ensures.word few c.in-Some.ensures);
+      sofar = rw c.in_ok-push.ensures (one_more_new _ _ _ (had_of c.args.gtin.now c.args.drawn.now) c.args.form.now c.args.count c.loop-found.serials c.loop-found.used c.in-Ok.word c.in-Some.serial c.loop-found.invariant.sofar c.in-Ok.ensures.word few c.in-Some.ensures);
       found = rw (c.in_ok-push.ensures, length_push) (omega arith);
       within = omega arith;
       count = omega arith;
@@ -25,7 +25,7 @@ pub loop-found-preserved : goal.loop-found-preserved
 loop-found-preserved g c =
     let few : length c.loop-found.serials < c.args.count = omega arith in
     record {
-      sofar = one_more_old _ _ _ (had_of c.args.gtin.now c.args.drawn.now) c.args.digits c.args.count c.loop-found.serials c.loop-found.used c.in-Ok.word c.loop-found.invariant.sofar c.in-Ok.ensures.word few (sym c.in_default-new_serial.is ∙ c.new_serial.ensures);
+      sofar = one_more_old _ _ _ (had_of c.args.gtin.now c.args.drawn.now) c.args.form.now c.args.count c.loop-found.serials c.loop-found.used c.in-Ok.word c.loop-found.invariant.sofar c.in-Ok.ensures.word few (sym c.in_default-new_serial.is ∙ c.new_serial.ensures);
       found = omega arith;
       within = omega arith;
       count = omega arith;

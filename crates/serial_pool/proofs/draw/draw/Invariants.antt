@@ -5,7 +5,7 @@ use Rattle.serial_pool.proofs.draw.draw.Given as goal
 
 abbrev pub invariant-loop-found : goal.invariant-loop-found
 invariant-loop-found g l = record {
-  sofar : Sofar (g.W.Words.words_left l.fn.words) (g.W.Words.words_left l.words) (had_of l.gtin l.drawn) l.digits l.count l.serials l.used;
+  sofar : Sofar (g.W.Words.words_left l.fn.words) (g.W.Words.words_left l.words) (had_of l.gtin l.drawn) l.form l.count l.serials l.used;
   found : l.found ≡ length l.serials;
   within : l.used ≤ l.limit;
   count : l.found ≤ l.count;
