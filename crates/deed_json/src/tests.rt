@@ -6,7 +6,7 @@ use deed_words::{
     Answer, Condition, Finding, Product, Products, Reply, Role, Rule, Setup, Station, StationId,
     Stations, What,
 };
-use gs1_keys::{Gln, Gtin, Prefix, Serials, Sscc, Text20};
+use gs1_keys::{Alphabet, Gln, Gtin, Prefix, SerialForm, Serials, Sscc, Text20};
 use std::alloc::Global;
 use std::process::Abort;
 use std::test::Fail;
@@ -17,7 +17,10 @@ fn example_site(alloc: Global) -> Result<Option<Setup>, Fail> {
     products.push(Product {
         gtin: Gtin::read(b"00614141123452")?,
         prefix_length: 7,
-        serial_length: 10,
+        form: SerialForm {
+            alphabet: Alphabet::Digits,
+            length: 10,
+        },
     })?;
     let mut stations = Stations::new(alloc);
     for (name, role) in [

@@ -9,3 +9,4 @@ mod Served
 mod ServedSite
 mod Statuses
 mod Words
+pub mod Expiries

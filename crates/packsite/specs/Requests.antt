@@ -1,5 +1,5 @@
 -- What a line asks for: a station of the site, a number, and a deed.
-use Rattle.std.specs.Prelude.{ℕ, List, Option, Some, None, Result, Ok, Err, codes, if◌then◌else◌, bytes_eq}
+use Rattle.std.specs.Prelude.{ℕ, List, Option, Some, None, Result, Ok, Err, codes, if◌then◌else◌, bytes_eq, is_some, option_map}
 use Rattle.std.specs.Str.{is_utf8}
 use Rattle.serde_json.specs.Data.{Data}
 use Rattle.serde_json.specs.Read.{read}
@@ -75,6 +75,10 @@ deed_of_word word d =
 unfoldable pub deed_of : Data → Option Deed
 deed_of d = text_at (codes "do") d >>= λ word. deed_of_word word d
 
+-- a deed may name its operator, by a text of 1 to 20 characters
+unfoldable pub operator_of : Data → Option (Option (List ℕ))
+operator_of d = if is_some (get (codes "operator") d) then option_map Some (word_at (codes "operator") d) else Some None
+
 unfoldable pub ask_at : Setup → Data → Option Ask
 ask_at site d = do
   name ← word_at (codes "station") d
@@ -82,7 +86,8 @@ ask_at site d = do
   number ← number_at (codes "number") d
   body ← get (codes "deed") d
   deed ← deed_of body
-  Some (record { station = station; number = number; deed = deed })
+  operator ← operator_of body
+  Some (record { station = station; number = number; operator = operator; deed = deed })
 
 -- what the line asks of the site
 unfoldable pub ask_of : Setup → List ℕ → Option Ask

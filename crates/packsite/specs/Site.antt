@@ -1,5 +1,6 @@
 -- The site that the program serves: its keys, products and stations.
 use Rattle.std.specs.Prelude.{List, [], ◌∷◌, codes}
+use Rattle.gs1_keys.specs.declared.form.Alphabet.TheVariants.{Digits}
 use Rattle.deed_words.specs.declared.setup.Product.{Product}
 use Rattle.deed_words.specs.declared.setup.Station.{Station}
 use Rattle.deed_words.specs.declared.words.Role.TheVariants.{Planner, Line, Quality}
@@ -7,8 +8,8 @@ use Rattle.deed_words.specs.Setups.{Setup}
 
 abbrev pub products : List Product
 products =
-    record { gtin = codes "00614141123452"; prefix_length = 7; serial_length = 10 }
-    ∷ record { gtin = codes "80614141123458"; prefix_length = 7; serial_length = 6 }
+    record { gtin = codes "00614141123452"; prefix_length = 7; form = record { alphabet = Digits; length = 10 } }
+    ∷ record { gtin = codes "80614141123458"; prefix_length = 7; form = record { alphabet = Digits; length = 6 } }
     ∷ []
 
 abbrev pub stations : List Station

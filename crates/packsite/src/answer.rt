@@ -9,6 +9,7 @@ ghost use Rattle.packsite.specs.Requests.{ask_of};
 ghost use Rattle.packsite.specs.Rules.{rule_of};
 ghost use Rattle.packsite.specs.Standing.{Stands};
 ghost use Rattle.site_core.specs.Plans.{IsNext, HasRoomFor};
+ghost use Rattle.deed_words.specs.Proper.{IsProperAsk};
 ghost use Rattle.packsite.specs.Keeping.{Keeps};
 ghost use Rattle.serde_json.specs.View.{view};
 ghost use Rattle.serde_json.specs.Written.{compact_text};
@@ -63,6 +64,7 @@ pub fn answer_line<W: Words>(alloc: Global, site: &mut Site, line: &Line, words:
 fn answer_ask<W: Words>(site: &mut Site, ask: Ask, words: &mut W) -> Answer
     requires stands { Stands site.old.setup site.old.history }
     requires station { ask.station < length site.old.setup.stations }
+    requires proper { IsProperAsk ask }
     ensures answer { (line : List ℕ) → length line ≤ line_limit → ask_of site.old.setup line ≡ Some ask
         → Takes (W.words_left words.old) (W.words_left words.new) (λ taken. Answers site.old.setup site.old.history line result taken site.new.history) }
     ensures cause { HasCauseIf (tells_words_fault result) (W.word_faults words.old) (W.word_faults words.new) }

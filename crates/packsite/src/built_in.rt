@@ -1,24 +1,28 @@
 //! The site that the program serves, until it reads a site file.
 ghost use Rattle.std.specs.Prelude.{◌≡◌, IfOk, codes};
 ghost use Rattle.gs1_keys.specs.Keys.{IsGtin, IsText, IsGln, IsPrefix};
+ghost use Rattle.gs1_keys.specs.declared.form.Alphabet.{Alphabet};
 ghost use Rattle.packsite.specs.Site.{products, stations, served_site};
 
 use deed_words::{Product, Products, Role, Setup, Station, Stations};
-use gs1_keys::{Gln, Gtin, Memory, Prefix, Text20};
+use gs1_keys::{Alphabet, Gln, Gtin, Memory, Prefix, SerialForm, Text20};
 use std::alloc::Global;
 
 /// How many digits of the GTINs are the company prefix.
 const PREFIX_LENGTH: u8 = 7;
 
-fn product(digits: &[u8], serial_length: u8) -> Product
+fn product(digits: &[u8], length: u8) -> Product
     requires { IsGtin digits.now }
-    ensures { result ≡ record { gtin = digits.now; prefix_length = 7; serial_length = serial_length } }
+    ensures { result ≡ record { gtin = digits.now; prefix_length = 7; form = record { alphabet = Alphabet.Digits; length = length } } }
 {
     match Gtin::read(digits) {
         Ok(gtin) => Product {
             gtin,
             prefix_length: PREFIX_LENGTH,
-            serial_length,
+            form: SerialForm {
+                alphabet: Alphabet::Digits,
+                length,
+            },
         },
         Err(_) => unreachable!(),
     }

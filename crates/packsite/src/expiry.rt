@@ -1,7 +1,8 @@
 //! Expiry dates of orders.
-ghost use Rattle.std.specs.Prelude.{◌≡◌, ◌<◌, ◌+◌, ◌↔◌, IsTrue, pos, length, true};
+ghost use Rattle.std.specs.Prelude.{◌≡◌, ◌<◌, ◌+◌, ◌↔◌, IsTrue, IfSome, pos, length, true};
 ghost use Rattle.packsite.specs.Dates.{are_digits, expiry_of, is_date, is_day, number_of_two, six_digits};
 ghost use Rattle.jiff.specs.Words.{IsDate};
+ghost use Rattle.gs1_element.specs.Dates.{is_expiry};
 
 use jiff::civil::Date;
 
@@ -49,8 +50,10 @@ fn is_date_text(text: &[u8]) -> bool
 }
 
 /// The six digits `YYMMDD` of a date `YYYY-MM-DD` of the years 2000 to 2099.
+#[tactic(auto, using(crate::proofs::Expiries::six_are_expiry))]
 pub fn read_expiry(text: &[u8]) -> Option<[u8; 6]>
-    ensures { result ≡ expiry_of text.now }
+    ensures is { result ≡ expiry_of text.now }
+    ensures date { IfSome result (λ expiry. is_expiry expiry ≡ true) }
 {
     if text.len() != 10 {
         return None;

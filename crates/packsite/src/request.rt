@@ -1,7 +1,9 @@
 //! Reading requests from lines of JSON.
-ghost use Rattle.std.specs.Prelude.{◌≡◌, ◌<◌, ◌≤◌, length, IfOk, IfSome, option_map};
+ghost use Rattle.std.specs.Prelude.{◌≡◌, ◌<◌, ◌≤◌, length, IfOk, IfSome, true, option_map};
+ghost use Rattle.gs1_element.specs.Dates.{is_expiry};
+ghost use Rattle.deed_words.specs.Proper.{IsProperDeed, IsProperAsk};
 ghost use Rattle.serde_json.specs.View.{view};
-ghost use Rattle.packsite.specs.Requests.{json_of, text_at, number_at, ranged_at, gtin_at, word_at, expiry_at, order_of, draw_of, deed_of, ask_at, ask_of};
+ghost use Rattle.packsite.specs.Requests.{json_of, text_at, number_at, ranged_at, gtin_at, word_at, expiry_at, order_of, draw_of, deed_of, operator_of, ask_at, ask_of};
 
 use crate::expiry::read_expiry;
 use deed_words::{Ask, Deed, OrderRow, Setup};
@@ -43,7 +45,7 @@ fn number_of(value: &Value, name: &str) -> Option<u64>
 #[tactic(auto, unfolding(crate::specs::Requests::ranged_at))]
 fn ranged(value: &Value, name: &str, low: u32, high: u32) -> Option<u32>
     ensures is { result ≡ ranged_at name.now low high (view value.now) }
-    ensures within { IfSome result (λ n. n ≤ high) }
+    ensures within { IfSome result (λ n. (low ≤ n) × (n ≤ high)) }
 {
     let number = number_of(value, name)?;
     if number < u64::from(low) || number > u64::from(high) {
@@ -68,14 +70,16 @@ fn word_of(value: &Value, name: &str) -> Option<Text20>
 
 #[tactic(auto, unfolding(crate::specs::Requests::expiry_at))]
 fn expiry_of(value: &Value, name: &str) -> Option<[u8; 6]>
-    ensures { result ≡ expiry_at name.now (view value.now) }
+    ensures is { result ≡ expiry_at name.now (view value.now) }
+    ensures date { IfSome result (λ expiry. is_expiry expiry ≡ true) }
 {
     read_expiry(text_of(value, name)?.as_bytes())
 }
 
-#[tactic(auto, unfolding(crate::specs::Requests::order_of))]
+#[tactic(auto, using(crate::proofs::Expiries::order_is_proper), unfolding(crate::specs::Requests::order_of))]
 fn read_order(value: &Value) -> Option<Deed>
-    ensures { result ≡ order_of (view value.now) }
+    ensures is { result ≡ order_of (view value.now) }
+    ensures proper { IfSome result (λ deed. IsProperDeed deed) }
 {
     Some(Deed::Order(OrderRow {
         batch: word_of(value, "batch")?,
@@ -90,7 +94,8 @@ fn read_order(value: &Value) -> Option<Deed>
 
 #[tactic(auto, unfolding(crate::specs::Requests::draw_of))]
 fn read_draw(value: &Value) -> Option<Deed>
-    ensures { result ≡ draw_of (view value.now) }
+    ensures is { result ≡ draw_of (view value.now) }
+    ensures proper { IfSome result (λ deed. IsProperDeed deed) }
 {
     Some(Deed::Draw(
         word_of(value, "batch")?,
@@ -101,7 +106,8 @@ fn read_draw(value: &Value) -> Option<Deed>
 /// The deed of a request.
 #[tactic(auto, unfolding(crate::specs::Requests::deed_of, crate::specs::Requests::deed_of_word))]
 fn read_deed(value: &Value) -> Option<Deed>
-    ensures { result ≡ deed_of (view value.now) }
+    ensures is { result ≡ deed_of (view value.now) }
+    ensures proper { IfSome result (λ deed. IsProperDeed deed) }
 {
     match text_of(value, "do")? {
         "order" => read_order(value),
@@ -110,28 +116,45 @@ fn read_deed(value: &Value) -> Option<Deed>
     }
 }
 
+/// The operator, where the deed names one.
+#[tactic(auto, unfolding(crate::specs::Requests::operator_of))]
+fn read_operator(value: &Value) -> Option<Option<Text20>>
+    ensures { result ≡ operator_of (view value.now) }
+{
+    match value.get("operator") {
+        Some(_) => Some(Some(word_of(value, "operator")?)),
+        None => Some(None),
+    }
+}
+
 #[tactic(auto, unfolding(crate::specs::Requests::ask_at))]
 fn read_members(setup: &Setup, value: &Value) -> Option<Ask>
     ensures is { result ≡ ask_at setup.now (view value.now) }
     ensures station { IfSome result (λ ask. ask.station < length setup.now.stations) }
+    ensures proper { IfSome result (λ ask. IsProperAsk ask) }
 {
     let name = word_of(value, "station")?;
     let station = station_of(setup, &name)?;
     let number = number_of(value, "number")?;
-    let deed = read_deed(value.get("deed")?)?;
+    let body = value.get("deed")?;
+    let deed = read_deed(body)?;
+    let operator = read_operator(body)?;
     Some(Ask {
         station,
         number,
+        operator,
         deed,
     })
 }
 
 /// What a line asks of the site: `{"station":S,"number":N,"deed":{..}}` in JSON, where S is the name of a station, N
-/// a number of 64 bits, and the deed one that is built. Members of other names are passed over.
+/// a number of 64 bits, and the deed one that is built, which may name its `operator`. Members of other names are passed
+/// over.
 #[tactic(auto, unfolding(crate::specs::Requests::ask_of))]
 pub fn read_ask(alloc: Global, setup: &Setup, line: &[u8]) -> Result<Option<Ask>, Memory>
     ensures is { IfOk result (λ ask. ask ≡ ask_of setup.now line.now) }
     ensures station { IfOk result (λ read. IfSome read (λ ask. ask.station < length setup.now.stations)) }
+    ensures proper { IfOk result (λ read. IfSome read (λ ask. IsProperAsk ask)) }
 {
     match read_json(alloc, line)? {
         Some(value) => Ok(read_members(setup, &value)),

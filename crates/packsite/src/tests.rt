@@ -73,6 +73,9 @@ fn an_order_is_answered(rt: HostRuntime) -> Result<(), Fail> {
     let (status, put) = run_on(&rt, ORDER, &[], &[])?;
     assert_eq!(rt; put.as_slice(), NEW);
     assert_eq!(rt; status, 0);
+    let by_ann = changed(&rt, "\"do\":", "\"operator\":\"ann\",\"do\":")?;
+    let (_, put) = run_on(&rt, &by_ann, &[], &[])?;
+    assert_eq!(rt; put.as_slice(), NEW);
     let (status, put) = run_on(&rt, b"", &[], &[])?;
     assert_eq!(rt; put.as_slice(), b"".as_slice());
     assert_eq!(rt; status, 0);
@@ -137,6 +140,7 @@ fn each_cause_of_not_built(rt: HostRuntime) -> Result<(), Fail> {
     assert!(rt; is_refused(&rt, "\"lot\":\"LOT6\",", "")?);
     assert!(rt; is_refused(&rt, "LOT6", "LOT678901234567890123")?);
     assert!(rt; is_refused(&rt, "LOT6", "LOT 6")?);
+    assert!(rt; is_refused(&rt, "\"do\":", "\"operator\":null,\"do\":")?);
     assert!(rt; is_refused(&rt, "80614141123458", "80614141123459")?);
     assert!(rt; is_refused(&rt, "2027-12-31", "2027-12")?);
     assert!(rt; is_refused(&rt, "2027-12-31", "2027-02-29")?);

@@ -1,5 +1,5 @@
 -- Keeping an entry in the lists.
-use Rattle.std.proofs.Common.{◌≡◌, ℕ, Bool, true, false, List, [], ◌∷◌, Option, None, Some, refl, ap, sym, ◌∙◌, true≢false}
+use Rattle.std.proofs.Common.{◌≡◌, ℕ, true, [], ◌∷◌, Option, None, Some, refl, ap, sym, ◌∙◌, true≢false}
 use Rattle.deed_words.specs.Names.{Text}
 use Rattle.deed_words.specs.Setups.{Setup}
 use Rattle.deed_words.specs.World.{World, batch_of}
@@ -9,7 +9,7 @@ use Rattle.deed_words.specs.declared.deed.Deed.{Deed}
 use Rattle.deed_words.specs.declared.deed.Deed.TheVariants.{Order, Draw}
 use Rattle.deed_words.specs.declared.rule.Rule.{Rule}
 use Rattle.deed_words.specs.declared.reply.Reply.{Reply}
-use Rattle.deed_words.specs.declared.reply.Reply.TheVariants.{Accepted, Refused}
+use Rattle.deed_words.specs.declared.reply.Reply.TheVariants.{Accepted}
 use Rattle.deed_words.specs.declared.reply.Answer.{Answer}
 use Rattle.deed_words.specs.declared.entry.Entry.{Entry}
 use Rattle.deed_words.specs.Rules.{broken}

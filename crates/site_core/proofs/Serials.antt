@@ -1,14 +1,10 @@
 -- The pool's serials and the world's rows.
-use Rattle.std.proofs.Common.{◌≡◌, ℕ, Bool, true, false, cond, ◌&&◌, ◌||◌, not, arith, List, [], ◌∷◌, ◌++◌, length, map, Option, Some, None, refl, ap, ap₂, sym, ◌∙◌, subst, true≢false}
-use Rattle.std.specs.Prelude.{filter, find, bytes_eq, All, ◌==◌}
-use Rattle.std.proofs.lemmas.Bool.{and_parts}
-use Rattle.std.proofs.lemmas.Bool.Decides.{nat_tests}
+use Rattle.std.proofs.Common.{◌≡◌, ℕ, Bool, true, false, cond, ◌&&◌, ◌||◌, List, [], ◌∷◌, ◌++◌, length, map, Some, None, refl, ap, ◌∙◌, true≢false}
+use Rattle.std.specs.Prelude.{filter, find, bytes_eq}
 use Rattle.deed_words.proofs.Sameness.{same_equiv}
-use Rattle.std.specs.List.{IsDistinct, list_any}
-use Rattle.std.specs.Cmp.{IsEquivalence}
 use Rattle.serial_pool.specs.declared.drawn.DrawnSerial.{DrawnSerial}
-use Rattle.serial_pool.specs.Drawing.{is_among}
-use Rattle.serial_pool.specs.Held.{had_of, drawn_for, is_serial, AreNew as AreNewSerials}
+use Rattle.gs1_keys.specs.Forms.{is_among, AreNew as AreNewSerials}
+use Rattle.serial_pool.specs.Held.{had_of, drawn_for}
 use Rattle.deed_words.specs.Names.{Text, same, same_name}
 use Rattle.deed_words.specs.Setups.{Setup, product_of}
 use Rattle.deed_words.specs.World.{World, name_of, row_of}
@@ -17,7 +13,7 @@ use Rattle.deed_words.specs.declared.world.Row.{Row}
 use Rattle.epc_urn.specs.declared.epc.Epc.TheVariants.{Item}
 use Rattle.deed_words.specs.Effects.{fresh_row}
 use Rattle.deed_words.specs.History.{AreNew, has_form}
-use Rattle.site_core.specs.Draws.{serials_of, digits_for, drawn_serial, drawn_in}
+use Rattle.site_core.specs.Draws.{serials_of, drawn_serial}
 
 had_rows : (gtin : Text) (rows : List Row) → had_of gtin (map drawn_serial rows) ≡ map (λ (row : Row). row.serial) (filter (λ (row : Row). same gtin row.gtin) rows)
 unfolding same
@@ -65,15 +61,12 @@ unknown_rows gtin serial (row ∷ rows) e =
 
 -- so many new serials of the pool may be drawn by the site
 pub may_draw : (site : Setup) (w : World) (gtin : Text) (product : Product) (count : ℕ) (serials : List Text) → product_of site gtin ≡ Some product → length serials ≡ count
-    → AreNewSerials (serials_of w gtin) product.serial_length serials → AreNew site w gtin count serials
+    → AreNewSerials (serials_of w gtin) product.form serials → AreNew site w gtin count serials
 unfolding serials_of row_of has_form same
 may_draw site w gtin product count serials is counted new =
     record {
       counted = counted;
-      formed = λ k d lt. let p = and_parts _ _ (new.formed k d lt) in (product, is, eq-true _ _ p.0, p.1);
+      formed = λ k d lt. (product, is, new.formed k d lt);
       distinct = new.distinct;
       unknown = λ k d lt. unknown_rows gtin _ w.rows (new.unknown k d lt);
     }
-  where
-    eq-true : (n m : ℕ) → (n == m) ≡ true → n ≡ m
-    eq-true n m e = grind (arith, nat_tests, e)

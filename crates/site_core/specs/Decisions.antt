@@ -1,5 +1,5 @@
 -- What comes of a deed before it is kept.
-use Rattle.std.specs.Prelude.{◌≡◌, ℕ, List, ◌++◌, length, Result, Ok, Err}
+use Rattle.std.specs.Prelude.{◌≡◌, ◌≤◌, ℕ, List, ◌++◌, length, Result, Ok, Err}
 use Rattle.deed_words.specs.Setups.{Setup}
 use Rattle.deed_words.specs.World.{World}
 use Rattle.deed_words.specs.declared.deed.Deed.{Deed}
@@ -26,6 +26,7 @@ pub record IsDecided (site : Setup) (w : World) (station : ℕ) (deed : Deed) (t
   pub draw_is : (entry : Entry) → IsOf station deed decision entry → drawn_in (after site w entry) ≡ drawn_in w ++ drawn_by_plan decision.draw
   pub new : MayCommit (drawn_in w) decision.draw
   pub size : length (drawn_by_plan decision.draw) ≡ length decision.drawn
+  pub few : length decision.drawn ≤ 10000
 
 abbrev pub Decides : Setup → World → ℕ → Deed → List ℕ → Result Decision PlanFault → Type 0
 Decides site w station deed taken (Ok decision) = IsDecided site w station deed taken decision

@@ -1,5 +1,5 @@
 -- How a draw of the site ends.
-use Rattle.std.specs.Prelude.{◌≡◌, ℕ, Bool, true, false, List, Result, Ok, Err}
+use Rattle.std.specs.Prelude.{ℕ, Bool, true, false, List, Result, Ok, Err}
 use Rattle.serial_pool.specs.Drawing.{IsDraw, IsSpent, IsUnfinished}
 use Rattle.serial_pool.specs.Held.{PlanView}
 use Rattle.deed_words.specs.Names.{Text}
@@ -8,13 +8,13 @@ use Rattle.deed_words.specs.World.{World}
 use Rattle.deed_words.specs.Effects.{gtin_of}
 use Rattle.site_core.specs.declared.planned.PlanFault.{PlanFault}
 use Rattle.site_core.specs.declared.planned.PlanFault.TheVariants.{Memory, WordsFault, WordsSpent}
-use Rattle.site_core.specs.Draws.{serials_of, digits_for}
+use Rattle.site_core.specs.Draws.{serials_of, form_for}
 
 -- what the draw answers after it took these words; want of memory may come at any time
 abbrev pub DrawEnds : Setup → World → Text → ℕ → List ℕ → Result PlanView PlanFault → Type 0
-DrawEnds site w name count taken (Ok plan) = IsDraw (serials_of w (gtin_of w name)) (digits_for site (gtin_of w name)) count taken plan.serials
-DrawEnds site w name count taken (Err (WordsSpent found)) = IsSpent (serials_of w (gtin_of w name)) (digits_for site (gtin_of w name)) count taken found
-DrawEnds site w name count taken (Err WordsFault) = IsUnfinished (serials_of w (gtin_of w name)) (digits_for site (gtin_of w name)) count taken
+DrawEnds site w name count taken (Ok plan) = IsDraw (serials_of w (gtin_of w name)) (form_for site (gtin_of w name)) count taken plan.serials
+DrawEnds site w name count taken (Err (WordsSpent found)) = IsSpent (serials_of w (gtin_of w name)) (form_for site (gtin_of w name)) count taken found
+DrawEnds site w name count taken (Err WordsFault) = IsUnfinished (serials_of w (gtin_of w name)) (form_for site (gtin_of w name)) count taken
 DrawEnds site w name count taken (Err Memory) = Unit {0}
 
 abbrev pub is_words_fault : {T : Type 0} → Result T PlanFault → Bool

@@ -4,6 +4,8 @@ use Rattle.std.specs.Option.{option_map_or}
 use Rattle.serial_pool.specs.Drawing.{IsDraw, IsSpent, IsUnfinished}
 use Rattle.serial_pool.specs.declared.drawn.DrawnSerial.{DrawnSerial}
 use Rattle.serial_pool.specs.Held.{PlanView, IsPlanFor, drawn_for}
+use Rattle.gs1_keys.specs.declared.form.SerialForm.{SerialForm}
+use Rattle.gs1_keys.specs.declared.form.Alphabet.TheVariants.{Digits}
 use Rattle.deed_words.specs.Names.{Text, same}
 use Rattle.deed_words.specs.Setups.{Setup, product_of}
 use Rattle.deed_words.specs.World.{World}
@@ -17,23 +19,23 @@ use Rattle.deed_words.specs.declared.rule.Rule.{Rule}
 unfoldable pub serials_of : World → Text → List Text
 serials_of w gtin = map (λ row. row.serial) (filter (λ row. same gtin row.gtin) w.rows)
 
--- how many digits a serial of the GTIN has
-unfoldable pub digits_for : Setup → Text → ℕ
-digits_for site gtin = option_map_or (λ product. product.serial_length) (product_of site gtin) 0
+-- what a serial of the GTIN looks like; a GTIN that is no product has none
+unfoldable pub form_for : Setup → Text → SerialForm
+form_for site gtin = option_map_or (λ product. product.form) (product_of site gtin) (record { alphabet = Digits; length = 0 })
 
 -- a draw that breaks no rule draws from these words, and any other deed takes none
 unfoldable pub Draws : Setup → World → Option Rule → Deed → List ℕ → List Text → Type 0
-Draws site w None (Draw name count) taken drawn = IsDraw (serials_of w (gtin_of w name)) (digits_for site (gtin_of w name)) count taken drawn
+Draws site w None (Draw name count) taken drawn = IsDraw (serials_of w (gtin_of w name)) (form_for site (gtin_of w name)) count taken drawn
 Draws site w rule deed taken drawn = (taken ≡ []) × (drawn ≡ [])
 
 -- all the words that the draw may take hold too few new serials
 unfoldable pub Spends : Setup → World → Option Rule → Deed → List ℕ → ℕ → Type 0
-Spends site w None (Draw name count) taken found = IsSpent (serials_of w (gtin_of w name)) (digits_for site (gtin_of w name)) count taken found
+Spends site w None (Draw name count) taken found = IsSpent (serials_of w (gtin_of w name)) (form_for site (gtin_of w name)) count taken found
 Spends site w rule deed taken found = ⊥
 
 -- the words so far hold too few, and the next one couldn't be had
 unfoldable pub Stops : Setup → World → Option Rule → Deed → List ℕ → Type 0
-Stops site w None (Draw name count) taken = IsUnfinished (serials_of w (gtin_of w name)) (digits_for site (gtin_of w name)) count taken
+Stops site w None (Draw name count) taken = IsUnfinished (serials_of w (gtin_of w name)) (form_for site (gtin_of w name)) count taken
 Stops site w rule deed taken = ⊥
 
 -- ---- the pool beside the world

@@ -6,6 +6,7 @@ use Rattle.deed_words.specs.declared.deed.Deed.{Deed}
 use Rattle.deed_words.specs.declared.deed.Deed.TheVariants.{Order, Draw}
 use Rattle.deed_words.specs.declared.entry.Ask.{Ask}
 use Rattle.deed_words.specs.declared.entry.Entry.{Entry}
+use Rattle.deed_words.specs.Proper.{IsProperEntry}
 use Rattle.deed_words.specs.Rules.{broken}
 use Rattle.deed_words.specs.Replies.{after, reply_to}
 use Rattle.deed_words.specs.History.{MayFollow, world_of}
@@ -24,11 +25,12 @@ is_built deed = false
 -- the entry that a request becomes
 abbrev pub entry_of : ℕ → Ask → ℕ → List Text → Entry
 entry_of worker ask stamp drawn =
-    record { station = ask.station; number = ask.number; worker = worker; stamp = stamp; deed = ask.deed; drawn = drawn }
+    record { station = ask.station; number = ask.number; worker = worker; stamp = stamp; operator = ask.operator; deed = ask.deed; drawn = drawn }
 
 -- the planned entry may come next, its reply is the one that it gets, and its draw is what the world gets
 pub record IsNext (site : Setup) (history : List Entry) (planned : Planned) : Type 0 where
   pub built : is_built planned.entry.deed ≡ true
+  pub proper : IsProperEntry planned.entry
   pub follows : MayFollow site history (world_of site history) planned.entry
   pub reply : planned.reply ≡ reply_to site (world_of site history) planned.entry
   pub draw : drawn_in (after site (world_of site history) planned.entry) ≡ drawn_in (world_of site history) ++ drawn_by_plan planned.draw

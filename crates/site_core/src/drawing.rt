@@ -17,7 +17,7 @@ use crate::planned::PlanFault;
 use deed_words::{Phase, Role, Rule, Setup, StationId, What};
 use gs1_keys::{Gtin, Text20};
 use outside::Words;
-use serial_pool::{DrawFault, DrawPlan, Pool, serial_count};
+use serial_pool::{DrawFault, DrawPlan, Pool};
 
 /// How many serials a site has at most.
 const MOST_SERIALS: u64 = 1_000_000;
@@ -31,7 +31,7 @@ fn half_pool(setup: &Setup, gtin: &Gtin) -> u64
     ensures { result ≡ half_pool setup.now gtin.now }
 {
     match setup.product(gtin) {
-        Some(product) => serial_count(product.serial_length) / 2,
+        Some(product) => product.form.half(),
         None => 0,
     }
 }
@@ -120,7 +120,7 @@ pub(crate) fn plan_serials<W: Words>(
     let Some(product) = setup.product(&batch.order.gtin) else {
         unreachable!()
     };
-    match pool.plan_draw(&batch.order.gtin, product.serial_length, words, count) {
+    match pool.plan_draw(&batch.order.gtin, &product.form, words, count) {
         Ok(plan) => Ok(plan),
         Err(DrawFault::PoolThin(_, _, _)) => unreachable!(),
         Err(DrawFault::WordsSpent(found)) => Err(PlanFault::WordsSpent(found)),

@@ -3,6 +3,7 @@ ghost use Rattle.std.specs.Prelude.{◌≡◌, ◌<◌, ◌≤◌, ◌+◌, ◌+
 ghost use Rattle.outside.specs.Causes.{HasCauseIf};
 ghost use Rattle.outside.specs.Devices.{Takes};
 ghost use Rattle.deed_words.specs.History.{own, last_stamp};
+ghost use Rattle.deed_words.specs.Proper.{IsProperAsk};
 ghost use Rattle.site_core.specs.Draws.{drawn_by_plan, MayCommit};
 ghost use Rattle.site_core.specs.DrawEnds.{is_words_fault};
 ghost use Rattle.site_core.specs.Plans.{is_built, Plans, IsNext, HasRoomFor};
@@ -17,7 +18,7 @@ use serial_pool::{DrawPlan, Pool};
 use std::alloc::Global;
 use std::marker::Model;
 
-/// A site: its setup, its history, which is lawful, what stands after it, and the serials that were drawn.
+/// A site: its setup, its history, which is lawful and of proper entries, what stands after it, and the serials that were drawn.
 #[derive(Drop)]
 pub struct Site {
     alloc: Global,
@@ -28,8 +29,9 @@ pub struct Site {
 }
 
 impl Model for Site {
-    ghost use Rattle.std.specs.Prelude.{◌≡◌, ◌-◌, min, vec_len, vec_capacity};
+    ghost use Rattle.std.specs.Prelude.{◌≡◌, ◌-◌, min, vec_len, vec_capacity, All};
     ghost use Rattle.deed_words.specs.History.{IsLawful, world_of};
+    ghost use Rattle.deed_words.specs.Proper.{IsProperEntry};
     ghost use Rattle.site_core.specs.Draws.{drawn_in};
     ghost use Rattle.site_core.specs.View.{View};
 
@@ -43,7 +45,7 @@ impl Model for Site {
       pool_room = s.pool.room;
     } };
 
-    ghost invariant = { λ s. IsLawful s.setup s.history.items × (s.lists.world ≡ world_of s.setup s.history.items) × (s.pool.drawn ≡ drawn_in s.lists.world) };
+    ghost invariant = { λ s. IsLawful s.setup s.history.items × (s.lists.world ≡ world_of s.setup s.history.items) × (s.pool.drawn ≡ drawn_in s.lists.world) × All IsProperEntry s.history.items };
 }
 
 impl Site {
@@ -80,7 +82,8 @@ impl Site {
     /// Works out the entry that a request becomes, with its reply, and makes room for it. A rule that the request
     /// breaks is a reply. A draw that breaks none takes words. The site stays as it is.
     ///
-    /// The request is of a station of the setup and has its next number; the stamp is not before the last one.
+    /// The request is proper, of a station of the setup, and has its next number; the stamp is not before the last one,
+    /// and not past the year 9999.
     ///
     /// # Errors
     ///
@@ -95,7 +98,9 @@ impl Site {
     ) -> Result<Planned, PlanFault>
         requires station { ask.station < length self.old.setup.stations }
         requires number { ask.number ≡ length (own ask.station self.old.history) + 1 }
+        requires proper { IsProperAsk ask }
         requires stamp { last_stamp self.old.history ≤ stamp }
+        requires last { stamp ≤ 253402300799999 }
         requires built { is_built ask.deed ≡ true }
         ensures plan { Takes (W.words_left words.old) (W.words_left words.new) (λ taken. Plans self.old.setup self.old.history worker ask stamp taken result) }
         ensures cause { HasCauseIf (is_words_fault result) (W.word_faults words.old) (W.word_faults words.new) }
@@ -149,7 +154,7 @@ impl Site {
 
 /// The entry that the request becomes.
 fn planned(worker: u8, ask: Ask, stamp: u64, decision: Decision) -> Planned
-    ensures entry { result.entry ≡ record { station = ask.station; number = ask.number; worker = worker; stamp = stamp; deed = ask.deed; drawn = decision.drawn } }
+    ensures entry { result.entry ≡ record { station = ask.station; number = ask.number; worker = worker; stamp = stamp; operator = ask.operator; deed = ask.deed; drawn = decision.drawn } }
     ensures reply { result.reply ≡ decision.reply }
     ensures draw { result.draw ≡ decision.draw }
 {
@@ -159,6 +164,7 @@ fn planned(worker: u8, ask: Ask, stamp: u64, decision: Decision) -> Planned
             number: ask.number,
             worker,
             stamp,
+            operator: ask.operator,
             deed: ask.deed,
             drawn: decision.drawn,
         },

@@ -1,12 +1,13 @@
-use Rattle.std.proofs.Common.{◌∙◌, sym, ap, subst, List, ℕ}
+use Rattle.std.proofs.Common.{◌∙◌, sym, ap, subst, List}
 use Rattle.serial_pool.specs.Held.{had_of}
 use Rattle.serial_pool.specs.Drawing.{IsDraw, IsSpent, IsUnfinished}
+use Rattle.gs1_keys.specs.declared.form.SerialForm.{SerialForm}
 use Rattle.deed_words.specs.Names.{Text}
 use Rattle.deed_words.specs.Effects.{gtin_of}
 use Rattle.deed_words.specs.History.{AreNew}
-use Rattle.site_core.specs.Draws.{serials_of, digits_for}
+use Rattle.site_core.specs.Draws.{serials_of, form_for}
 use Rattle.site_core.proofs.Serials.{had_is, may_draw}
-use Rattle.site_core.proofs.Drawable.{drawable, drawable_batch, gtin_is, digits_are, few_in_all, same_product, no_thin, product_range}
+use Rattle.site_core.proofs.Drawable.{drawable, drawable_batch, gtin_is, form_is, few_in_all, same_product, no_thin, product_form}
 use Rattle.site_core.proofs.drawing.plan_serials.Goals as goal
 
 pub unreachable-requires : goal.unreachable-requires
@@ -19,11 +20,8 @@ unreachable-requires-in_default-product g c =
     let d = drawable c.args.setup.now c.args.lists.now.world c.args.station c.args.name.now c.args.count c.in-Some.batch c.requires.allowed (sym c.batch.ensures ∙ c.in-Some.is) in
     c.in_default-product.not-Some d.product (c.product.ensures.is ∙ d.product_is)
 
-pub plan_draw-requires-clause-short : goal.plan_draw-requires-clause-short
-plan_draw-requires-clause-short g c = (product_range c.in-Some-product.product c.in-Some-product.ensures.proper).0
-
-pub plan_draw-requires-clause-long : goal.plan_draw-requires-clause-long
-plan_draw-requires-clause-long g c = (product_range c.in-Some-product.product c.in-Some-product.ensures.proper).1
+pub plan_draw-requires-clause-form : goal.plan_draw-requires-clause-form
+plan_draw-requires-clause-form g c = product_form c.in-Some-product.product c.in-Some-product.ensures.proper
 
 pub plan_draw-requires-clause-some : goal.plan_draw-requires-clause-some
 plan_draw-requires-clause-some g c =
@@ -47,9 +45,9 @@ returns-in-Ok-clause-draw g c =
     let w = c.args.lists.now.world in
     let gtin = gtin_is w c.args.name.now c.in-Some.batch (sym c.batch.ensures ∙ c.in-Some.is) in
     let had = had_is w c.args.pool.now.drawn c.in-Some.batch.order.gtin c.requires.pool ∙ ap (serials_of w) gtin in
-    let digits = digits_are c.args.setup.now c.in-Some.batch.order.gtin c.in-Some-product.product (sym c.product.ensures.is ∙ c.in-Some-product.is) ∙ ap (digits_for c.args.setup.now) gtin in
+    let form = form_is c.args.setup.now c.in-Some.batch.order.gtin c.in-Some-product.product (sym c.product.ensures.is ∙ c.in-Some-product.is) ∙ ap (form_for c.args.setup.now) gtin in
     let e = c.in-Ok.ensures.draw in
-    (e.0, e.1, subst (λ (h : List Text). IsDraw h (digits_for c.args.setup.now (gtin_of w c.args.name.now)) c.args.count e.0 c.in-Ok.plan.serials) had (subst (λ (n : ℕ). IsDraw (had_of c.in-Some.batch.order.gtin c.args.pool.now.drawn) n c.args.count e.0 c.in-Ok.plan.serials) digits e.2.1))
+    (e.0, e.1, subst (λ (h : List Text). IsDraw h (form_for c.args.setup.now (gtin_of w c.args.name.now)) c.args.count e.0 c.in-Ok.plan.serials) had (subst (λ (f : SerialForm). IsDraw (had_of c.in-Some.batch.order.gtin c.args.pool.now.drawn) f c.args.count e.0 c.in-Ok.plan.serials) form e.2.1))
 
 pub returns-in-Ok-clause-new : goal.returns-in-Ok-clause-new
 returns-in-Ok-clause-new g c =
@@ -67,17 +65,17 @@ returns-in-Err-WordsSpent-clause-draw g c =
     let w = c.args.lists.now.world in
     let gtin = gtin_is w c.args.name.now c.in-Some.batch (sym c.batch.ensures ∙ c.in-Some.is) in
     let had = had_is w c.args.pool.now.drawn c.in-Some.batch.order.gtin c.requires.pool ∙ ap (serials_of w) gtin in
-    let digits = digits_are c.args.setup.now c.in-Some.batch.order.gtin c.in-Some-product.product (sym c.product.ensures.is ∙ c.in-Some-product.is) ∙ ap (digits_for c.args.setup.now) gtin in
+    let form = form_is c.args.setup.now c.in-Some.batch.order.gtin c.in-Some-product.product (sym c.product.ensures.is ∙ c.in-Some-product.is) ∙ ap (form_for c.args.setup.now) gtin in
     let e = c.in-Err-WordsSpent.ensures.draw in
     let spent = rw (c.in-Err-WordsSpent.field-0-is) at e.2 in
-    (e.0, e.1, subst (λ (h : List Text). IsSpent h (digits_for c.args.setup.now (gtin_of w c.args.name.now)) c.args.count e.0 c.in-Err-WordsSpent.found) had (subst (λ (n : ℕ). IsSpent (had_of c.in-Some.batch.order.gtin c.args.pool.now.drawn) n c.args.count e.0 c.in-Err-WordsSpent.found) digits spent.1))
+    (e.0, e.1, subst (λ (h : List Text). IsSpent h (form_for c.args.setup.now (gtin_of w c.args.name.now)) c.args.count e.0 c.in-Err-WordsSpent.found) had (subst (λ (f : SerialForm). IsSpent (had_of c.in-Some.batch.order.gtin c.args.pool.now.drawn) f c.args.count e.0 c.in-Err-WordsSpent.found) form spent.1))
 
 pub returns-in-Err-WordsFault-clause-draw : goal.returns-in-Err-WordsFault-clause-draw
 returns-in-Err-WordsFault-clause-draw g c =
     let w = c.args.lists.now.world in
     let gtin = gtin_is w c.args.name.now c.in-Some.batch (sym c.batch.ensures ∙ c.in-Some.is) in
     let had = had_is w c.args.pool.now.drawn c.in-Some.batch.order.gtin c.requires.pool ∙ ap (serials_of w) gtin in
-    let digits = digits_are c.args.setup.now c.in-Some.batch.order.gtin c.in-Some-product.product (sym c.product.ensures.is ∙ c.in-Some-product.is) ∙ ap (digits_for c.args.setup.now) gtin in
+    let form = form_is c.args.setup.now c.in-Some.batch.order.gtin c.in-Some-product.product (sym c.product.ensures.is ∙ c.in-Some-product.is) ∙ ap (form_for c.args.setup.now) gtin in
     let e = c.in-Err-WordsFault.ensures.draw in
     let stopped = rw (c.in-Err-WordsFault.field-0-is) at e.2 in
-    (e.0, e.1, subst (λ (h : List Text). IsUnfinished h (digits_for c.args.setup.now (gtin_of w c.args.name.now)) c.args.count e.0) had (subst (λ (n : ℕ). IsUnfinished (had_of c.in-Some.batch.order.gtin c.args.pool.now.drawn) n c.args.count e.0) digits stopped.1))
+    (e.0, e.1, subst (λ (h : List Text). IsUnfinished h (form_for c.args.setup.now (gtin_of w c.args.name.now)) c.args.count e.0) had (subst (λ (f : SerialForm). IsUnfinished (had_of c.in-Some.batch.order.gtin c.args.pool.now.drawn) f c.args.count e.0) form stopped.1))

@@ -15,5 +15,5 @@ invariant_of-self c =
     let next : IsNext site history c.args.planned = subst (λ (v : View). IsNext v.setup v.history c.args.planned) (sym c.self.view_is) c.requires.next in
     let world = c.self.invariant.1 in
     let kept : c.keep.new.self.world ≡ after site (world_of site history) c.args.planned.entry = c.keep.ensures ∙ ap (λ (w : World). after site w c.args.planned.entry) world in
-    let all = grown site history c.args.planned c.keep.new.self.world c.self.inside.pool.drawn c.commit_draw.new.pool.drawn c.self.invariant.0 next kept (c.self.invariant.2 ∙ ap drawn_in world) c.commit_draw.ensures in
+    let all = grown site history c.args.planned c.keep.new.self.world c.self.inside.pool.drawn c.commit_draw.new.pool.drawn c.self.invariant.0 c.self.invariant.3 next kept (c.self.invariant.2 ∙ ap drawn_in world) c.commit_draw.ensures in
     rw (c.push_reserved.ensures.items) all

@@ -1,4 +1,4 @@
-use Rattle.std.proofs.Common.{◌≡◌, ◌∙◌, sym, ap, length, List}
+use Rattle.std.proofs.Common.{◌∙◌, sym, ap, length, List}
 use Rattle.std.specs.Prelude.{nat_eq}
 use Rattle.std.proofs.lemmas.List.Sums.{length-filter}
 use Rattle.deed_words.specs.declared.entry.Entry.{Entry}
