@@ -11,6 +11,10 @@ use crate::view::View;
 use atomic_table::{Seat, Shared};
 use std::snapshot::Snapshot;
 use std::sync::Wait;
+use std::thread;
+
+// How often a worker looks, and lets others run, before it sleeps.
+const LOOKS: u32 = 64;
 
 pub(crate) type Top<V> = Shared<V, View, Snapshot<V>, Turns>;
 
@@ -43,12 +47,18 @@ pub(crate) fn wait<V: Stands, R: Wait>(rt: &R, top: &Top<V>, seat: &mut Seat<V, 
     ensures table { seat.new.table_id ≡ seat.old.table_id }
     ensures first { seat.new.me ≡ (first_at ticket seat.old.me.0, seat.old.me.1) }
 {
+    let mut looks = 0;
     for _ in rt.forever() {
         let found = look(top, seat, ticket);
         if found == ticket {
             return;
         }
-        top.park(rt, 1, (found % (1 << 32)) as u32);
+        if looks < LOOKS {
+            looks += 1;
+            thread::yield_now();
+        } else {
+            top.park(rt, 1, (found % (1 << 32)) as u32);
+        }
     }
     unreachable!()
 }
