@@ -4,6 +4,7 @@ use Rattle.deed_words.specs.declared.entry.Note.{Note}
 use Rattle.deed_words.specs.declared.entry.Note.TheVariants.{Done, Fault}
 use Rattle.turn_desk.specs.declared.view.Noted.{Noted}
 
+-- the worker that a note names
 abbrev pub maker : Note → ℕ
 maker (Done i k) = k
 maker (Fault kind k) = k
