@@ -4,9 +4,11 @@
 //! can be taken back: its row stands on no other row's way, so its one place is free again, with no mark left.
 #![tactic(auto)]
 
+mod hashing;
 mod places;
 mod table;
 
+pub use hashing::{pair_hash, text_hash};
 pub use table::PlaceTable;
 
 #[cfg(test)]

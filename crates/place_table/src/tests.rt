@@ -39,3 +39,11 @@ fn the_last_row_is_taken_back(rt: HostRuntime) -> Result<(), Fail> {
     assert_eq!(rt; table.find(1, &|row: usize| row == 2), Some(2));
     Ok(())
 }
+
+#[test]
+fn hashes_are_those_of_fnv_1a(rt: HostRuntime) {
+    // FNV-1a of 64 bits: of no byte cbf29ce484222325, of "a" af63dc4c8601ec8c, of "foobar" 85944171f73967e8
+    assert_eq!(rt; text_hash(b""), 0xcbf2_9ce4);
+    assert_eq!(rt; text_hash(b"a"), 0xaf63_dc4c);
+    assert_eq!(rt; pair_hash(b"foo", b"bar"), 0x8594_4171);
+}
