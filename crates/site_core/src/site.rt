@@ -1,9 +1,9 @@
 //! The site.
-ghost use Rattle.std.specs.Prelude.{◌≡◌, ◌<◌, ◌≤◌, ◌+◌, ◌++◌, ◌∷◌, [], length, true, IfOk, OnOk, nat_eq, count_by};
+ghost use Rattle.std.specs.Prelude.{◌≡◌, ◌<◌, ◌≤◌, ◌+◌, ◌++◌, ◌∷◌, [], length, true, All, IfOk, OnOk, nat_eq, count_by};
 ghost use Rattle.outside.specs.Causes.{HasCauseIf};
 ghost use Rattle.outside.specs.Devices.{Takes};
-ghost use Rattle.deed_words.specs.History.{own, last_stamp};
-ghost use Rattle.deed_words.specs.Proper.{IsProperAsk};
+ghost use Rattle.deed_words.specs.History.{own, last_stamp, IsLawful};
+ghost use Rattle.deed_words.specs.Proper.{IsProperAsk, IsProperEntry};
 ghost use Rattle.site_core.specs.Draws.{drawn_by_plan, MayCommit};
 ghost use Rattle.site_core.specs.DrawEnds.{is_words_fault};
 ghost use Rattle.site_core.specs.Plans.{is_built, Plans, IsNext, HasRoomFor};
@@ -67,6 +67,14 @@ impl Site {
         ensures { result.now ≡ self.now.setup }
     {
         &self.setup
+    }
+
+    /// Tells contracts what every site keeps. It does nothing.
+    pub fn tell_kept(&self)
+        ensures lawful { IsLawful self.now.setup self.now.history }
+        ensures proper { All IsProperEntry self.now.history }
+    {
+        let _room = self.history.len();
     }
 
     /// Whether a number is the station's next one: one more than it has entries.
