@@ -27,8 +27,8 @@ untouched : (ws : List Named) (c : List ℕ) → IsTornBy ws c c
 untouched [] c = refl
 untouched (w ∷ ws) c = (c, inl (torn_same w.at w.len c), untouched ws c)
 
-pub synced_image : (bytes : List ℕ) (was : Option Unsynced) (u : Unsynced) → was ≡ Some u → IsImage bytes was u.synced.items
-synced_image bytes was u is = subst (λ (o : Option Unsynced). IsImage bytes o u.synced.items) (sym is) (inr (untouched u.writes.items u.synced.items))
+pub synced_image : (bytes : List ℕ) (was : Option Unsynced) (u : Unsynced) → was ≡ Some u → IsImage bytes was u.synced.value.items
+synced_image bytes was u is = subst (λ (o : Option Unsynced). IsImage bytes o u.synced.value.items) (sym is) (inr (untouched u.writes.items u.synced.value.items))
 
 -- one more write
 torn_push : (ws : List Named) (w : Named) (old c : List ℕ) → IsTornBy (ws ++ w ∷ []) old c → (d : List ℕ) × IsTornBy ws old d × (Torn w.at w.len d c ⊎ Torn w.at w.len w.found.value.items c)
@@ -42,41 +42,41 @@ push_torn [] w old d c torn more = (c, subst (λ (l : List ℕ). Torn w.at w.len
 push_torn (v ∷ ws) w old d c torn more = (torn.0, torn.1, push_torn ws w torn.0 d c torn.2 more)
 
 -- a further write is named
-pub further : (before : Unsynced) (new : Unsynced) (w : Named) (bytes : List ℕ) → new.synced.items ≡ before.synced.items → new.writes.items ≡ before.writes.items ++ w ∷ [] → w.found.value.items ≡ bytes
+pub further : (before : Unsynced) (new : Unsynced) (w : Named) (bytes : List ℕ) → new.synced.value.items ≡ before.synced.value.items → new.writes.items ≡ before.writes.items ++ w ∷ [] → w.found.value.items ≡ bytes
     → Names w.at w.len bytes (Some before) (Some new)
 further before new w bytes same more found = record {
-  follows = λ c left. came c (torn_push before.writes.items w before.synced.items c (there c left));
+  follows = λ c left. came c (torn_push before.writes.items w before.synced.value.items c (there c left));
   leads = λ d c is torn. back c (went d c is torn);
 }
   where
-    there : (c : List ℕ) → IsUnsynced (Some new) c → IsTornBy (before.writes.items ++ w ∷ []) before.synced.items c
-    there c left = subst (λ (l : List ℕ). IsTornBy (before.writes.items ++ w ∷ []) l c) same (subst (λ (l : List Named). IsTornBy l new.synced.items c) more left)
+    there : (c : List ℕ) → IsUnsynced (Some new) c → IsTornBy (before.writes.items ++ w ∷ []) before.synced.value.items c
+    there c left = subst (λ (l : List ℕ). IsTornBy (before.writes.items ++ w ∷ []) l c) same (subst (λ (l : List Named). IsTornBy l new.synced.value.items c) more left)
 
-    back : (c : List ℕ) → IsTornBy (before.writes.items ++ w ∷ []) before.synced.items c → IsUnsynced (Some new) c
-    back c left = subst (λ (l : List Named). IsTornBy l new.synced.items c) (sym more) (subst (λ (l : List ℕ). IsTornBy (before.writes.items ++ w ∷ []) l c) (sym same) left)
+    back : (c : List ℕ) → IsTornBy (before.writes.items ++ w ∷ []) before.synced.value.items c → IsUnsynced (Some new) c
+    back c left = subst (λ (l : List Named). IsTornBy l new.synced.value.items c) (sym more) (subst (λ (l : List ℕ). IsTornBy (before.writes.items ++ w ∷ []) l c) (sym same) left)
 
-    came : (c : List ℕ) → (d : List ℕ) × IsTornBy before.writes.items before.synced.items d × (Torn w.at w.len d c ⊎ Torn w.at w.len w.found.value.items c)
+    came : (c : List ℕ) → (d : List ℕ) × IsTornBy before.writes.items before.synced.value.items d × (Torn w.at w.len d c ⊎ Torn w.at w.len w.found.value.items c)
         → (d : List ℕ) × IsImage bytes (Some before) d × Torn w.at w.len d c
     came c (d, left, inl torn) = (d, inr left, torn)
     came c (d, left, inr torn) = (bytes, inl refl, subst (λ (l : List ℕ). Torn w.at w.len l c) found torn)
 
-    went : (d c : List ℕ) → IsImage bytes (Some before) d → Torn w.at w.len d c → IsTornBy (before.writes.items ++ w ∷ []) before.synced.items c
-    went d c (inl is) torn = push_torn before.writes.items w before.synced.items before.synced.items c (untouched before.writes.items before.synced.items)
+    went : (d c : List ℕ) → IsImage bytes (Some before) d → Torn w.at w.len d c → IsTornBy (before.writes.items ++ w ∷ []) before.synced.value.items c
+    went d c (inl is) torn = push_torn before.writes.items w before.synced.value.items before.synced.value.items c (untouched before.writes.items before.synced.value.items)
         (inr (subst (λ (l : List ℕ). Torn w.at w.len l c) (is ∙ sym found) torn))
-    went d c (inr left) torn = push_torn before.writes.items w before.synced.items d c left (inl torn)
+    went d c (inr left) torn = push_torn before.writes.items w before.synced.value.items d c left (inl torn)
 
 -- the first write since a sync is named
-pub first : (new : Unsynced) (w : Named) (bytes : List ℕ) → new.synced.items ≡ bytes → new.writes.items ≡ w ∷ [] → w.found.value.items ≡ bytes → Names w.at w.len bytes None (Some new)
+pub first : (new : Unsynced) (w : Named) (bytes : List ℕ) → new.synced.value.items ≡ bytes → new.writes.items ≡ w ∷ [] → w.found.value.items ≡ bytes → Names w.at w.len bytes None (Some new)
 first new w bytes same one found = record {
   follows = λ c left. came c (there c left);
   leads = λ d c is torn. back c (went d c is torn);
 }
   where
     there : (c : List ℕ) → IsUnsynced (Some new) c → IsTornBy (w ∷ []) bytes c
-    there c left = subst (λ (l : List ℕ). IsTornBy (w ∷ []) l c) same (subst (λ (l : List Named). IsTornBy l new.synced.items c) one left)
+    there c left = subst (λ (l : List ℕ). IsTornBy (w ∷ []) l c) same (subst (λ (l : List Named). IsTornBy l new.synced.value.items c) one left)
 
     back : (c : List ℕ) → IsTornBy (w ∷ []) bytes c → IsUnsynced (Some new) c
-    back c left = subst (λ (l : List Named). IsTornBy l new.synced.items c) (sym one) (subst (λ (l : List ℕ). IsTornBy (w ∷ []) l c) (sym same) left)
+    back c left = subst (λ (l : List Named). IsTornBy l new.synced.value.items c) (sym one) (subst (λ (l : List ℕ). IsTornBy (w ∷ []) l c) (sym same) left)
 
     came : (c : List ℕ) → IsTornBy (w ∷ []) bytes c → (d : List ℕ) × IsImage bytes None d × Torn w.at w.len d c
     came c (d, inl torn, is) = (bytes, inl refl, subst (λ (l : List ℕ). Torn w.at w.len bytes l) (sym is) torn)
@@ -85,6 +85,12 @@ first new w bytes same one found = record {
     went : (d c : List ℕ) → IsImage bytes None d → Torn w.at w.len d c → IsTornBy (w ∷ []) bytes c
     went d c (inl is) torn = (c, inl (subst (λ (l : List ℕ). Torn w.at w.len l c) is torn), refl)
     went d c (inr none) torn = absurd none
+
+pub further_at : (was : Option Unsynced) (before new : Unsynced) (w : Named) (at n : ℕ) (bytes : List ℕ) → was ≡ Some before → (w.at ≡ at) × (w.len ≡ n) → new.synced.value.items ≡ before.synced.value.items
+    → new.writes.items ≡ before.writes.items ++ w ∷ [] → w.found.value.items ≡ bytes → Names at n bytes was (Some new)
+further_at was before new w at n bytes is range same more found =
+    subst (λ (o : Option Unsynced). Names at n bytes o (Some new)) (sym is) (subst (λ (k : ℕ). Names k n bytes (Some before) (Some new)) range.0 (subst (λ (k : ℕ). Names w.at k bytes (Some before) (Some new)) range.1
+    (further before new w bytes same more found)))
 
 -- with a range named, whether the content changed or not
 pub named_follows : (at n : ℕ) (old new : List ℕ) (was now : Option Unsynced) → Names at n old was now → Torn at n old new → Follows (Torn at n) (IsImage old was) (IsImage new now)
@@ -115,11 +121,10 @@ pub written_or_not : {E : Type 0} (r : Result (Unit {0}) E) (at : ℕ) (piece ol
 written_or_not (Ok _) at piece old new le ok err = subst (λ (l : List ℕ). Torn at (length piece) old l) (sym ok) (torn_overwritten at piece old le)
 written_or_not (Err _) at piece old new le ok err = subst (λ (l : List ℕ). Torn at (length piece) old l) (sym err) (torn_same at (length piece) old)
 
--- after a range was named, or not
-pub named_or_not : {E : Type 0} (r : Result (Unit {0}) E) (at n : ℕ) (bytes : List ℕ) (was now : Option Unsynced) → OnOk r (Names at n bytes was now) → OnErr r (SameUnsynced was now)
-    → LeadsTo (Torn at n) (IsImage bytes was) (IsImage bytes now) ⊎ SameImages (IsImage bytes was) (IsImage bytes now)
-named_or_not (Ok _) at n bytes was now ok err = inl (named_leads at n bytes bytes was now ok)
-named_or_not (Err _) at n bytes was now ok err = inr (same_images bytes bytes was now refl err)
+-- after a range was named
+pub leads_ok : {E : Type 0} (r : Result (Unit {0}) E) (at n : ℕ) (bytes : List ℕ) (was now : Option Unsynced) → OnOk r (Names at n bytes was now) → OnOk r (LeadsTo (Torn at n) (IsImage bytes was) (IsImage bytes now))
+leads_ok (Ok _) at n bytes was now ok = named_leads at n bytes bytes was now ok
+leads_ok (Err _) at n bytes was now ok = tt
 
 pub on_ok : {E P : Type 0} (r : Result (Unit {0}) E) → P → OnOk r P
 on_ok (Ok _) is = is

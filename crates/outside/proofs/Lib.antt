@@ -2,3 +2,4 @@ pub mod Images
 pub mod Moments
 mod PastMoments
 pub mod Pieces
+mod Undoing

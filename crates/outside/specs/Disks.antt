@@ -63,12 +63,13 @@ pub record Elapses (before now : ℕ) (past since : ℕ → List ℕ → Type 0)
   pub nothing_else : (t : ℕ) (c : List ℕ) → t ≤ before → since t c → past t c ⊎ image c
   pub keeps : (t : ℕ) (c : List ℕ) → t ≤ before → past t c → since t c
 
--- Each image since old has P.
+-- Each image since old has P, and what was possible before is so still.
 pub record LeavesOnly {D : Type 0} (moment : D → ℕ) (since : D → ℕ → List ℕ → Type 0) (old new : D) (P : List ℕ → Type 0) : Type 0 where
   pub later : moment old ≤ moment new
   pub each : (c : List ℕ) → since new (moment old) c → P c
   -- for a run that began earlier
   pub before : (t : ℕ) (c : List ℕ) → t ≤ moment old → since new t c → since old t c ⊎ P c
+  pub keeps : (t : ℕ) (c : List ℕ) → t ≤ moment old → since old t c → since new t c
 
 -- where nothing is told there is no content
 pub untold : (c : List ℕ) → None ≡ Some c → ⊥

@@ -1,7 +1,7 @@
 -- The images of a disk in memory, now and before.
-use Rattle.std.specs.Prelude.{◌≡◌, ◌⊎◌, ℕ, List, [], ◌∷◌, ◌++◌, length, drop, Option, Some, None}
+use Rattle.std.specs.Prelude.{◌≡◌, ◌⊎◌, ◌+◌, ℕ, nat_le, if◌then◌else◌, List, [], ◌∷◌, ◌++◌, length, take, drop, Option, Some, None}
 use Rattle.std.proofs.Common.{inl, inr}
-use Rattle.outside.specs.Disks.{Torn, Follows, LeadsTo, SameImages, Elapses}
+use Rattle.outside.specs.Disks.{Torn, overwritten, Follows, LeadsTo, SameImages, Elapses}
 use Rattle.outside.specs.declared.named.Named.{Named}
 use Rattle.outside.specs.declared.named.Unsynced.{Unsynced}
 use Rattle.outside.specs.declared.named.Past.{Past}
@@ -15,7 +15,7 @@ IsTornBy (w ∷ ws) old c = (d : List ℕ) × (Torn w.at w.len old d ⊎ Torn w.
 -- what stood at the last sync, with the writes since then cut short
 abbrev pub IsUnsynced : Option Unsynced → List ℕ → Type 0
 IsUnsynced None c = ⊥
-IsUnsynced (Some u) c = IsTornBy u.writes.items u.synced.items c
+IsUnsynced (Some u) c = IsTornBy u.writes.items u.synced.value.items c
 
 abbrev pub IsImage : List ℕ → Option Unsynced → List ℕ → Type 0
 IsImage bytes unsynced c = (c ≡ bytes) ⊎ IsUnsynced unsynced c
@@ -27,6 +27,39 @@ SameUnsynced old new = SameImages (IsUnsynced old) (IsUnsynced new)
 pub record Names (at n : ℕ) (bytes : List ℕ) (old new : Option Unsynced) : Type 0 where
   pub follows : Follows (Torn at n) (IsImage bytes old) (IsUnsynced new)
   pub leads : LeadsTo (Torn at n) (IsImage bytes old) (IsUnsynced new)
+
+-- what stood at the last sync
+abbrev pub at_last_sync : List ℕ → Option Unsynced → List ℕ
+at_last_sync bytes None = bytes
+at_last_sync bytes (Some u) = u.synced.value.items
+
+-- the writes since then
+abbrev pub writes_of : Option Unsynced → List Named
+writes_of None = []
+writes_of (Some u) = u.writes.items
+
+-- the content with what this write covered put back, where it is long enough
+abbrev pub undone : Named → List ℕ → Option (List ℕ)
+undone w c = if nat_le (w.at + length w.covered.items) (length c) then Some (take w.size (overwritten w.at w.covered.items c)) else None
+
+abbrev pub then_undone : Option (List ℕ) → Named → Option (List ℕ)
+then_undone None w = None
+then_undone (Some c) w = undone w c
+
+-- the content with what these writes covered put back, the last of them first
+abbrev pub all_undone : List Named → List ℕ → Option (List ℕ)
+all_undone [] c = Some c
+all_undone (w ∷ ws) c = then_undone (all_undone ws c) w
+
+-- what the writes covered leads back to what stood at the last sync
+abbrev pub LeadsBack : List ℕ → Option Unsynced → Type 0
+LeadsBack bytes unsynced = all_undone (writes_of unsynced) bytes ≡ Some (at_last_sync bytes unsynced)
+
+-- a write of n bytes, done or not, keeps what stood at the last sync
+pub record KeepsSync (at n : ℕ) (bytes : List ℕ) (old new : Option Unsynced) : Type 0 where
+  pub as_it_was : LeadsBack bytes new
+  pub written : (piece : List ℕ) → length piece ≡ n → LeadsBack (overwritten at piece bytes) new
+  pub same : (c : List ℕ) → at_last_sync c new ≡ at_last_sync bytes old
 
 -- one of these moments had the image
 abbrev pub HadImage : List Past → List ℕ → Type 0

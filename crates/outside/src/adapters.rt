@@ -1,8 +1,8 @@
 //! Adapters over the readers and writers of std, which tell what these tell: standard input and standard
-//! output tell their counts of faults alone, and so do random words.
+//! output tell their counts of faults alone.
 ghost use Rattle.std.specs.Prelude.{◌≡◌, None};
 
-use crate::{Failed, Sink, Source, Words};
+use crate::{Failed, Sink, Source};
 use std::io::{Read, Write};
 
 /// A reader as a source.
@@ -37,6 +37,38 @@ impl<R: Read> Source for Reading<R> {
     }
 }
 
+/// A file as a source, which tells its count of faults alone. One that couldn't be opened fails at each take.
+#[derive(Drop)]
+pub struct FileSource<R> {
+    inner: Option<R>,
+    faults: u64,
+}
+
+impl<R: Read> FileSource<R> {
+    pub fn new(inner: Option<R>) -> Self
+        ensures left { ⟦<FileSource<R> as Source>⟧.left result ≡ None }
+        ensures faults { ⟦<FileSource<R> as Source>⟧.read_faults result ≡ 0 }
+    {
+        FileSource { inner, faults: 0 }
+    }
+}
+
+impl<R: Read> Source for FileSource<R> {
+    ghost left = { λ _. None };
+
+    ghost read_faults = { λ s. s.faults };
+
+    fn take(&mut self, piece: &mut [u8]) -> Result<usize, Failed> {
+        if let Some(reader) = &mut self.inner {
+            if let Ok(count) = reader.read(piece) {
+                return Ok(count);
+            }
+        }
+        self.faults = self.faults.saturating_add(1);
+        Err(Failed)
+    }
+}
+
 /// A writer as a sink. One that takes nothing has failed.
 #[derive(Drop)]
 pub struct Writing<W> {
@@ -66,37 +98,5 @@ impl<W: Write> Sink for Writing<W> {
                 Err(Failed)
             }
         }
-    }
-}
-
-/// Words of eight bytes each from a reader, which tell nothing. A reader that isn't there fails at each word.
-#[derive(Drop)]
-pub struct RandomWords<R> {
-    inner: Option<R>,
-    faults: u64,
-}
-
-impl<R: Read> RandomWords<R> {
-    pub fn new(inner: Option<R>) -> Self
-        ensures { ⟦<RandomWords<R> as Words>⟧.word_faults result ≡ 0 }
-    {
-        RandomWords { inner, faults: 0 }
-    }
-}
-
-impl<R: Read> Words for RandomWords<R> {
-    ghost words_left = { λ _. None };
-
-    ghost word_faults = { λ s. s.faults };
-
-    fn next_word(&mut self) -> Result<u64, Failed> {
-        let mut bytes = [0; 8];
-        if let Some(reader) = &mut self.inner {
-            if reader.read_exact(&mut bytes).is_ok() {
-                return Ok(u64::from_le_bytes(bytes));
-            }
-        }
-        self.faults = self.faults.saturating_add(1);
-        Err(Failed)
     }
 }

@@ -1,19 +1,19 @@
 //! A disk in memory, which tells its content and fails at the calls that it is told.
 ghost use Rattle.std.specs.Prelude.{◌≡◌, ◌⊎◌, ◌+◌, ◌≤◌, ◌↔◌, ℕ, List, length, take, drop, Some, IfOk, OnOk, OnErr, IsErr};
 ghost use Rattle.std.proofs.Common.{inl};
-ghost use Rattle.std.specs.Bool.{OnFalse};
-ghost use Rattle.outside.specs.Causes.{HasCause};
+ghost use Rattle.std.specs.Bool.{OnTrue, OnFalse};
+ghost use Rattle.outside.specs.Causes.{HasCause, RoseBy};
 ghost use Rattle.outside.specs.Disks.{Tells, Together, overwritten, Torn, Follows, LeadsTo, Only, SameImages, NoMoreImages, Elapses, one_call_more};
 ghost use Rattle.outside.specs.Failing.{told, IsListed, IsCalled};
-ghost use Rattle.outside.specs.MemoryDisks.{IsImage, SinceThen, only_image, content_image};
+ghost use Rattle.outside.specs.MemoryDisks.{IsImage, SinceThen, at_last_sync, only_image, content_image};
 
 use crate::failures::Failures;
 use crate::kept::Kept;
 use crate::{Disk, Failed};
 use std::alloc::Global;
 
-/// Bytes in memory as a disk. Beside the content it keeps what stood at the last sync with the ranges that writes
-/// named since, and remembers each moment before.
+/// Bytes in memory as a disk. Beside the content it keeps the ranges that writes named since the last sync, each with
+/// the bytes that the write covered, and remembers each moment before.
 #[derive(Drop)]
 pub struct MemoryDisk {
     kept: Kept,
@@ -26,6 +26,7 @@ impl MemoryDisk {
         ensures content { ⟦<MemoryDisk as Disk>⟧.content result ≡ Some bytes.items }
         ensures synced { (c : List ℕ) → ⟦<MemoryDisk as Disk>⟧.image result c → c ≡ bytes.items }
         ensures faults { ⟦<MemoryDisk as Disk>⟧.disk_faults result ≡ 0 }
+        ensures at_last_sync { at_last_sync result.kept.bytes.items result.kept.unsynced ≡ bytes.items }
         ensures calls { ⟦<MemoryDisk as Disk>⟧.disk_calls result ≡ Some 0 }
         ensures failing { result.failures ≡ told failing.items }
     {
@@ -35,22 +36,15 @@ impl MemoryDisk {
         }
     }
 
-    /// The content, or with `synced` the content as it was at the last sync. A crash may leave either.
+    /// The content, or with `synced` the content as it was at the last sync that succeeded, at the start where there
+    /// was none. A crash may leave either. It takes no memory.
     pub fn image(self, synced: bool) -> Vec<u8>
         ensures image { ⟦<MemoryDisk as Disk>⟧.image self result.items }
         ensures content { OnFalse synced (⟦<MemoryDisk as Disk>⟧.content self ≡ Some result.items) }
+        ensures synced { OnTrue synced (result.items ≡ at_last_sync self.kept.bytes.items self.kept.unsynced) }
     {
         let MemoryDisk { kept, failures: _ } = self;
-        let Kept {
-            alloc: _,
-            bytes,
-            unsynced,
-            past: _,
-        } = kept;
-        match unsynced {
-            Some(unsynced) if synced => unsynced.synced,
-            _ => bytes,
-        }
+        kept.image(synced)
     }
 }
 
@@ -110,7 +104,8 @@ impl Disk for MemoryDisk {
         Ok(())
     }
 
-    /// It fails where the number of the call is listed, and for want of memory. Then the content is as before.
+    /// It fails where the number of the call is listed, and for want of memory. Then the content is as before. A call
+    /// that is listed names its range, or counts a second fault where it finds no memory for that.
     fn write_at(&mut self, at: u64, piece: &[u8]) -> Result<(), Failed>
         requires { Tells (⟦<MemoryDisk as Disk>⟧.content self.old) (λ c. at ≤ length c) }
         ensures written { OnOk result (Together (λ old new. new ≡ overwritten at piece.now old) (⟦<MemoryDisk as Disk>⟧.content self.old) (⟦<MemoryDisk as Disk>⟧.content self.new)) }
@@ -123,9 +118,13 @@ impl Disk for MemoryDisk {
         ensures counted { ⟦<MemoryDisk as Disk>⟧.disk_calls self.new ≡ one_call_more (⟦<MemoryDisk as Disk>⟧.disk_calls self.old) }
         ensures called { IsCalled self.old.failures self.new.failures }
         ensures failing { IsListed self.old.failures → IsErr result }
+        ensures named { IsListed self.old.failures → LeadsTo (Torn at (length piece.now)) (⟦<MemoryDisk as Disk>⟧.image self.old) (⟦<MemoryDisk as Disk>⟧.image self.new) ⊎ RoseBy 2 (⟦<MemoryDisk as Disk>⟧.disk_faults self.old) (⟦<MemoryDisk as Disk>⟧.disk_faults self.new) }
+        ensures same_sync { at_last_sync self.new.kept.bytes.items self.new.kept.unsynced ≡ at_last_sync self.old.kept.bytes.items self.old.kept.unsynced }
     {
         if self.failures.next_fails() {
-            let _named = self.kept.name(at, piece.len());
+            if self.kept.name(at, piece.len()).is_err() {
+                self.failures.fail();
+            }
             return Err(Failed);
         }
         match self.kept.write(at, piece) {
@@ -148,6 +147,8 @@ impl Disk for MemoryDisk {
         ensures counted { ⟦<MemoryDisk as Disk>⟧.disk_calls self.new ≡ one_call_more (⟦<MemoryDisk as Disk>⟧.disk_calls self.old) }
         ensures called { IsCalled self.old.failures self.new.failures }
         ensures failing { IsListed self.old.failures → IsErr result }
+        ensures synced_content { OnOk result (⟦<MemoryDisk as Disk>⟧.content self.new ≡ Some (at_last_sync self.new.kept.bytes.items self.new.kept.unsynced)) }
+        ensures same_sync { OnErr result (at_last_sync self.new.kept.bytes.items self.new.kept.unsynced ≡ at_last_sync self.old.kept.bytes.items self.old.kept.unsynced) }
     {
         if self.failures.next_fails() {
             return Err(Failed);
