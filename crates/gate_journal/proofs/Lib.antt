@@ -1,12 +1,14 @@
-mod Crash
-mod Blocks
-mod Settled
+pub mod Crash
+pub mod Blocks
+pub mod Settled
 mod Pieces
 mod Touch
 mod Headers
 mod OneMore
-mod Loading
+pub mod Loading
 mod Making
-mod Readings
+pub mod Readings
 mod Everything
 mod FirstWrite
+mod Writing
+mod Places

@@ -53,7 +53,7 @@ whole_front : (c site : List ℕ) (place : ℕ) (ps : List (List ℕ)) → c ≡
 whole_front c site place ps is more =
     is ∙ ap (λ (l : List ℕ). (1 ∷ header site) ++ l) more ∙ sym (append_assoc (1 ∷ header site) (records ps) (drop place c)) ∙ ap (λ (l : List ℕ). l ++ drop place c) (sym (front_is site ps))
 
-length-front : (site : List ℕ) (ps : List (List ℕ)) → length (front site ps) ≡ 13 + length site + length (records ps)
+pub length-front : (site : List ℕ) (ps : List (List ℕ)) → length (front site ps) ≡ 13 + length site + length (records ps)
 length-front site ps = omega (arith, ap length (front_is site ps), length-append (1 ∷ header site) (records ps), length-header site)
 
 pub bad_record : (c site : List ℕ) (place : ℕ) → IsShort site → c ≡ 1 ∷ header site ++ drop (13 + length site) c → BrokenAt (13 + length site) place c → IsBad c place

@@ -1,10 +1,10 @@
 //! Making a journal.
-ghost use Rattle.std.specs.Prelude.{◌≡◌, ◌≢◌, ◌⊎◌, ◌+◌, ◌<◌, ◌≤◌, ◌++◌, ◌∷◌, [], List, ℕ, None, length, drop, IfOk, IfErr, OnOk, OnErr, IsErrOf};
+ghost use Rattle.std.specs.Prelude.{◌≡◌, ◌≢◌, ◌⊎◌, ◌+◌, ◌<◌, ◌≤◌, ◌++◌, ◌∷◌, [], ◌↔◌, List, ℕ, None, length, drop, IfOk, IfErr, OnOk, OnErr, IsErrOf, IsSome};
 ghost use Rattle.outside.specs.Causes.{HasCause, HasCauseIf};
 ghost use Rattle.outside.specs.Disks.{Tells, Only, LeavesOnly};
 ghost use Rattle.gate_journal.specs.Gates.{IsShut, EndsAt, EachImage, Reaches};
 ghost use Rattle.gate_journal.specs.Grammar.{header, IsShort, IsNone, IsThere, IsFresh};
-ghost use Rattle.gate_journal.specs.Journals.{IsSettled};
+ghost use Rattle.gate_journal.specs.Journals.{IsSettled, Writes, shut_header};
 ghost use Rattle.gate_journal.specs.Readings.{Untouched, UntouchedUntil, is_disk_fault, is_fault_of_disk};
 ghost use Rattle.gate_journal.specs.declared.fault.JournalFault.TheVariants.{Disk, Memory, AlreadyThere};
 
@@ -45,6 +45,8 @@ fn first_gate<D: Disk>(disk: &mut D) -> Result<(), JournalFault>
     requires short { Tells (D.content disk.old) (λ c. length c < 2) }
     requires only { Only (D.content disk.old) (D.image disk.old) }
     ensures none { (c : List ℕ) → D.image disk.new c → IsNone c }
+    ensures wrote { OnOk result (Writes 0 (0 ∷ []) (D.content disk.old) (D.content disk.new)) }
+    ensures told { IsSome (D.content disk.old) ↔ IsSome (D.content disk.new) }
     ensures shut { OnOk result (EachImage (D.image disk.new) 0 [] (EndsAt [])) }
     ensures fault { IfErr result (λ e. e ≡ Disk) }
     ensures any_moment { LeavesOnly D.moment D.image_since disk.old disk.new IsNone }
@@ -79,6 +81,9 @@ fn shut_front<D: Disk>(disk: &mut D) -> Result<(), JournalFault>
     ensures shut { OnOk result (EachImage (D.image disk.new) 0 [] (EndsAt [])) }
     ensures none { OnOk result (Tells (D.content disk.old) IsNone) }
     ensures there { IsErrOf result AlreadyThere → Tells (D.content disk.old) IsThere }
+    ensures wrote { OnOk result ((D.content disk.new ≡ D.content disk.old) ⊎ Writes 0 (0 ∷ []) (D.content disk.old) (D.content disk.new)) }
+    ensures told { IsSome (D.content disk.old) ↔ IsSome (D.content disk.new) }
+    ensures spared { OnErr result (Untouched D.content D.image D.moment D.image_since disk.old disk.new ⊎ Tells (D.content disk.old) IsNone) }
     ensures fault { IfErr result (λ e. (e ≡ Disk) ⊎ (e ≡ AlreadyThere)) }
     ensures untouched { IsErrOf result AlreadyThere → Untouched D.content D.image D.moment D.image_since disk.old disk.new }
     ensures failed { OnErr result (Untouched D.content D.image D.moment D.image_since disk.old disk.new ⊎ ((c : List ℕ) → D.image disk.new c → IsNone c)) }
@@ -111,6 +116,8 @@ fn shut_front<D: Disk>(disk: &mut D) -> Result<(), JournalFault>
 fn write_header<D: Disk>(disk: &mut D, body: &[u8]) -> Result<(), JournalFault>
     requires { Reaches (D.image disk.old) 0 }
     ensures reach { OnOk result (Reaches (D.image disk.new) (length body.now)) }
+    ensures wrote { OnOk result (Writes 0 (1 ∷ body.now) (D.content disk.old) (D.content disk.new)) }
+    ensures told { IsSome (D.content disk.old) ↔ IsSome (D.content disk.new) }
     ensures made { OnOk result ((site : List ℕ) → IsShort site → body.now ≡ header site ++ 0 ∷ [] → EachImage (D.image disk.old) 0 [] (EndsAt []) → IsSettled (D.image disk.new) (length body.now) None site []) }
     ensures fresh { (site : List ℕ) → IsShort site → body.now ≡ header site ++ 0 ∷ [] → EachImage (D.image disk.old) 0 [] (EndsAt []) → (c : List ℕ) → D.image disk.new c → IsFresh site c }
     ensures any_moment { (site : List ℕ) → IsShort site → body.now ≡ header site ++ 0 ∷ [] → EachImage (D.image disk.old) 0 [] (EndsAt []) → LeavesOnly D.moment D.image_since disk.old disk.new (IsFresh site) }
@@ -130,10 +137,17 @@ impl<D: Disk> Journal<D> {
     /// Makes a journal of a site of at most 65,535 bytes, without payloads, where none is there: `AlreadyThere` comes
     /// exactly where the disk has two bytes or more and byte 0 is 1. Before its first write it changes nothing, and
     /// `Memory` comes only before that. After a `Disk` in that write or later, whatever a crash leaves is no journal,
-    /// or the journal of this site without payloads. The disk comes back with each fault.
+    /// or the journal of this site without payloads. A disk on which anything but no journal was is left as it was.
+    /// What is written is the header behind its open gate, and one closed gate. The disk comes back with each fault.
     pub fn init(alloc: Global, disk: D, site: &[u8]) -> Result<Journal<D>, (JournalFault, D)>
         requires { length site.now ≤ 65535 }
         ensures made { IfOk result (λ j. IsSettled (D.image j.disk) j.end j.pending site.now []) }
+        ensures end { IfOk result (λ j. j.end ≡ 13 + length site.now) }
+        ensures settled { IfOk result (λ j. j.pending ≡ None) }
+        ensures wrote { IfOk result (λ j. Writes 0 (shut_header site.now) (D.content disk) (D.content j.disk)) }
+        ensures told { IfOk result (λ j. IsSome (D.content disk) ↔ IsSome (D.content j.disk)) }
+        ensures told_err { IfErr result (λ e. IsSome (D.content disk) ↔ IsSome (D.content e.1)) }
+        ensures spared { IfErr result (λ e. Untouched D.content D.image D.moment D.image_since disk e.1 ⊎ Tells (D.content disk) IsNone) }
         ensures none { IfOk result (λ _. Tells (D.content disk) IsNone) }
         ensures there { IfErr result (λ e. e.0 ≡ AlreadyThere → Tells (D.content disk) IsThere) }
         ensures fault { IfErr result (λ e. (e.0 ≡ Disk) ⊎ (e.0 ≡ Memory) ⊎ (e.0 ≡ AlreadyThere)) }

@@ -3,8 +3,8 @@ ghost use Rattle.std.specs.Prelude.{◌≡◌, ◌<◌, List, ℕ, Some, length}
 
 use outside::Disk;
 
-/// A journal has at most so many bytes.
-pub(crate) const LIMIT: u64 = 268_435_456;
+/// No append makes a journal longer than so many bytes.
+pub const LIMIT: u64 = 268_435_456;
 
 /// A journal on a disk, whose next record goes behind the closed gate at `end`. Where a record is pending, `pending`
 /// has the end behind it. A payload that was appended is in whatever a crash leaves from then on.

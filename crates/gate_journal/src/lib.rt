@@ -18,8 +18,8 @@ mod records;
 
 pub use fault::JournalFault;
 pub use frame::Frame;
-pub use journal::Journal;
-pub use laws::one_reading;
+pub use journal::{Journal, LIMIT};
+pub use laws::{gate_place, one_reading, two_readings, with_or_without};
 pub use loaded::Loaded;
 pub use payload::Payload;
 pub use payloads::Payloads;

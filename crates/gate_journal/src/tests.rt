@@ -1,8 +1,12 @@
 ghost use Rattle.std.specs.Prelude.{◌<◌, ◌^◌, length};
 
-use crate::{Frame, Journal, JournalFault, Loaded};
+use crate::{
+    Frame, Journal, JournalFault, LIMIT, Loaded, gate_place, one_reading, two_readings,
+    with_or_without,
+};
 use outside::{Disk, FileDisk, MemoryDisk};
 use std::alloc::Global;
+use std::fs;
 use std::test::Fail;
 
 // The site 7 8 and the payloads 1 2 3 and 4.
@@ -274,7 +278,7 @@ fn a_journal_is_full(rt: HostRuntime) -> Result<(), Fail> {
     // The file isn't there, so an append that isn't refused before fails at its first device call.
     for (end, expected) in [
         (268_435_449, JournalFault::Disk),
-        (268_435_450, JournalFault::Full(268_435_450, 1, 268_435_456)),
+        (268_435_450, JournalFault::Full(268_435_450, 1, LIMIT)),
     ] {
         let mut journal = Journal {
             disk: FileDisk::new(None),
@@ -283,5 +287,83 @@ fn a_journal_is_full(rt: HostRuntime) -> Result<(), Fail> {
         };
         assert_eq!(rt; journal.append(&frame), Err(expected));
     }
+    Ok(())
+}
+
+#[test]
+fn a_frame_grows(rt: HostRuntime) -> Result<(), Fail> {
+    let alloc = rt.alloc();
+    let mut frame = Frame::of(alloc, &[1, 9])?;
+    assert_eq!(rt; frame.len(), 2);
+    frame.grow(2, &[7, 8])?;
+    assert_eq!(rt; frame.len(), 4);
+    assert_eq!(rt; frame.bytes(), [0, 0, 0, 4, 2, 9, 7, 8, 0].as_slice());
+    Ok(())
+}
+
+#[test]
+fn laws_do_nothing(_rt: HostRuntime) -> Result<(), Fail> {
+    one_reading();
+    with_or_without();
+    gate_place();
+    two_readings();
+    Ok(())
+}
+
+// A journal of the site 7 8 over this disk, with so many payloads of so many equal bytes.
+fn filled<D: Disk + Drop>(
+    alloc: Global,
+    disk: D,
+    count: u32,
+    size: usize,
+) -> Result<Journal<D>, Fail>
+    requires { size < 2 ^ 32 }
+{
+    let mut journal = match Journal::init(alloc, disk, &[7, 8]) {
+        Ok(journal) => journal,
+        Err((fault, _disk)) => return Err(fault.into()),
+    };
+    for number in 0..count {
+        let payload = vec![in alloc; (number % 256) as u8; size]?;
+        let frame = Frame::of(alloc, &payload)?;
+        if !journal.pending() {
+            journal.append(&frame)?;
+        }
+    }
+    Ok(journal)
+}
+
+#[test]
+fn many_appends_over_a_disk_in_memory(rt: HostRuntime) -> Result<(), Fail> {
+    let alloc = rt.alloc();
+    let disk = MemoryDisk::new(alloc, Vec::new(alloc), Vec::new(alloc));
+    let journal = filled(alloc, disk, 12_844, 300)?;
+    if !journal.pending() {
+        // The header has 15 bytes and each record 305.
+        assert_eq!(rt; journal.end(), 3_917_435);
+    }
+    let bytes = journal.into_disk().image(true);
+    assert_eq!(rt; bytes.len(), 3_917_436);
+    assert_eq!(rt; held(alloc, bytes), Ok(12_844));
+    Ok(())
+}
+
+#[test]
+fn a_hundred_appends_over_a_file(rt: HostRuntime) -> Result<(), Fail> {
+    let alloc = rt.alloc();
+    let path = "journal_of_the_test";
+    let journal = filled(alloc, FileDisk::open(&rt, ".", path), 100, 200)?;
+    drop(journal);
+    let memory = MemoryDisk::new(alloc, Vec::new(alloc), Vec::new(alloc));
+    let expected = filled(alloc, memory, 100, 200)?.into_disk().image(false);
+    let bytes = fs::read(&rt, path)?;
+    assert_eq!(rt; bytes.as_slice(), expected.as_slice());
+    let (journal, loaded) = match Journal::load(alloc, FileDisk::open(&rt, ".", path)) {
+        Ok(found) => found,
+        Err((fault, _disk)) => return Err(fault.into()),
+    };
+    assert!(rt; !journal.pending());
+    assert_eq!(rt; loaded.payloads.len(), 100);
+    fs::remove_file(&rt, path)?;
     Ok(())
 }

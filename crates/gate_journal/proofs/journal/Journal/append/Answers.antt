@@ -1,9 +1,10 @@
-use Rattle.std.proofs.Common.{◌≡◌, ◌+◌, inl, inr, length, ap, arith, Some}
+use Rattle.std.proofs.Common.{◌≡◌, ◌+◌, ◌∷◌, List, ℕ, inl, inr, length, ap, subst, arith, Some}
 use Rattle.gate_journal.specs.Gates.{EndsAt, WithOrWithout}
-use Rattle.gate_journal.specs.Grammar.{block, front, IsShort}
-use Rattle.gate_journal.specs.Journals.{HoldsWithOrWithout}
+use Rattle.gate_journal.specs.Grammar.{block, front, Holds, IsShort}
+use Rattle.gate_journal.specs.Journals.{HoldsWithOrWithout, Writes}
 use Rattle.gate_journal.proofs.Blocks.{length-framed}
 use Rattle.gate_journal.proofs.Settled.{settled_all, all_settled, all_behind, push_settled, without, with_or_without}
+use Rattle.gate_journal.proofs.Writing.{both_written, body_torn, gate_torn}
 use Rattle.outside.proofs.Moments.{and_then, weaker}
 use Rattle.gate_journal.proofs.journal.Journal.append.Goals as goal
 
@@ -71,3 +72,26 @@ invariant_of-self-2 g c =
       there = λ d left. let far = reach d left in omega (arith, far, body, c.len-asked.ensures.length);
       pending_there = λ n is. absurd (cc);
     }
+
+pub returns-in_default-clause-as_before : goal.returns-in_default-clause-as_before
+returns-in_default-clause-as_before g c _ _ site ps is =
+    weaker g.D.Disk.moment g.D.Disk.image_since c.args.self.now.disk c.stage.new.disk (EndsAt (front site ps)) (Holds site ps)
+    (c.stage.ensures.any_moment (front site ps) (settled_all (g.D.Disk.image c.args.self.now.disk) c.args.self.now.end c.args.self.now.pending site ps is))
+    (λ d ends. record { site_fits = is.site_fits; payloads_fit = is.payloads_fit; ends = ends })
+
+pub returns-in_default-clause-torn : goal.returns-in_default-clause-torn
+returns-in_default-clause-torn g c _ =
+    let body : length c.bytes.result.now ≡ 5 + length c.args.frame.now = length-framed c.args.frame.now c.bytes.result.now c.bytes.ensures in
+    body_torn c.args.self.now.end (length c.bytes.result.now) (6 + length c.args.frame.now) (g.D.Disk.content c.args.self.now.disk) (g.D.Disk.content c.stage.new.disk) (omega (arith, body)) c.in_default.ensures.torn
+
+pub returns-in_default-open_gate-clause-torn : goal.returns-in_default-open_gate-clause-torn
+returns-in_default-open_gate-clause-torn g c _ =
+    let body : length c.bytes.result.now ≡ 5 + length c.args.frame.now = length-framed c.args.frame.now c.bytes.result.now c.bytes.ensures in
+    gate_torn c.args.self.now.end (6 + length c.args.frame.now) c.bytes.result.now (g.D.Disk.content c.args.self.now.disk) (g.D.Disk.content c.stage.new.disk) (g.D.Disk.content c.open_gate.new.disk) (omega (arith, body))
+    (λ l told. c.args.self.now.there l (g.met.D.Disk.as_read c.args.self.now.disk l told)) c.in-Ok.ensures.wrote c.in_default-open_gate.ensures.torn
+
+pub returns-clause-wrote : goal.returns-clause-wrote
+returns-clause-wrote g c =
+    subst (λ (body : List ℕ). Writes c.args.self.now.end (1 ∷ body) (g.D.Disk.content c.args.self.now.disk) (g.D.Disk.content c.open_gate.new.disk)) c.bytes.ensures
+    (both_written c.args.self.now.end c.bytes.result.now (g.D.Disk.content c.args.self.now.disk) (g.D.Disk.content c.stage.new.disk) (g.D.Disk.content c.open_gate.new.disk)
+    (λ l told. c.args.self.now.there l (g.met.D.Disk.as_read c.args.self.now.disk l told)) c.in-Ok.ensures.wrote c.in-Ok-open_gate.ensures.wrote)
