@@ -1,3 +1,4 @@
+mod Buffers
 pub mod Images
 pub mod Moments
 mod PastMoments
