@@ -4,7 +4,7 @@ use Rattle.std.specs.Int.{from_le_bytes, w64}
 use Rattle.std.specs.Io.KnownBytes.{Keeps, Consumes, prepend_known}
 use Rattle.std.proofs.KnownBytes.{Keeps-trans}
 use Rattle.std.proofs.lemmas.List.{take_at, drop_at, take-take, drop-take, drop-drop, length-take-le, length-drop}
-use Rattle.outside.specs.RandomWords.{words_of, words_told}
+use Rattle.outside.specs.Readers.{words_of, words_told}
 
 -- the front of a list that is longer than another one
 take_over : (m n : ℕ) (xs s : List ℕ) → m ≤ length xs → take (m + n) (take m xs ++ s) ≡ take m xs ++ take n s

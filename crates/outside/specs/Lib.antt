@@ -3,4 +3,4 @@ pub mod Devices
 pub mod Disks
 pub mod Failing
 pub mod MemoryDisks
-pub mod RandomWords
+pub mod Readers

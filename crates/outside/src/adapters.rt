@@ -1,6 +1,7 @@
 //! Adapters over the readers and writers of std, which tell what these tell: standard input and standard
 //! output tell their counts of faults alone.
-ghost use Rattle.std.specs.Prelude.{◌≡◌, None};
+ghost use Rattle.std.specs.Prelude.{◌≡◌};
+ghost use Rattle.outside.specs.Readers.{left_in};
 
 use crate::{Failed, Sink, Source};
 use std::io::{Read, Write};
@@ -37,7 +38,7 @@ impl<R: Read> Source for Reading<R> {
     }
 }
 
-/// A file as a source, which tells its count of faults alone. One that couldn't be opened fails at each take.
+/// A reader that may not be there, as a file that couldn't be opened, as a source. One that isn't fails at each take.
 #[derive(Drop)]
 pub struct FileSource<R> {
     inner: Option<R>,
@@ -46,7 +47,7 @@ pub struct FileSource<R> {
 
 impl<R: Read> FileSource<R> {
     pub fn new(inner: Option<R>) -> Self
-        ensures left { ⟦<FileSource<R> as Source>⟧.left result ≡ None }
+        ensures left { ⟦<FileSource<R> as Source>⟧.left result ≡ left_in R.remaining inner }
         ensures faults { ⟦<FileSource<R> as Source>⟧.read_faults result ≡ 0 }
     {
         FileSource { inner, faults: 0 }
@@ -54,7 +55,7 @@ impl<R: Read> FileSource<R> {
 }
 
 impl<R: Read> Source for FileSource<R> {
-    ghost left = { λ _. None };
+    ghost left = { λ s. left_in R.remaining s.inner };
 
     ghost read_faults = { λ s. s.faults };
 

@@ -1,7 +1,7 @@
 //! Random words from a reader, read many at once and handed out one by one.
 ghost use Rattle.std.specs.Prelude.{◌≡◌, ◌≤◌, take};
 ghost use Rattle.std.specs.Io.KnownBytes.{Keeps, prepend_known};
-ghost use Rattle.outside.specs.RandomWords.{bytes_ahead, left_in, words_told};
+ghost use Rattle.outside.specs.Readers.{bytes_ahead, left_in, words_told};
 
 use crate::{Failed, Words};
 use std::io::Read;

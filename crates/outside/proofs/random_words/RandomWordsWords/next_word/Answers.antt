@@ -1,6 +1,6 @@
 use Rattle.std.proofs.Common.{◌≡◌, ◌+◌, ◌-◌, ◌∷◌, [], ℕ, take, drop, subst, sym, ap, ◌∙◌, arith, rules}
 use Rattle.std.specs.Io.KnownBytes.{Consumes}
-use Rattle.outside.specs.RandomWords.{bytes_ahead, left_in, words_told}
+use Rattle.outside.specs.Readers.{bytes_ahead, left_in, words_told}
 use Rattle.outside.proofs.Buffers.{word_goes}
 use Rattle.outside.proofs.random_words.RandomWordsWords.next_word.Goals as goal
 

@@ -1,4 +1,4 @@
--- Words in bytes.
+-- What is left in a reader, and the words in its bytes.
 use Rattle.std.specs.Prelude.{◌-◌, ℕ, List, [], ◌∷◌, take, drop, Option, Some, None}
 use Rattle.std.specs.Int.{from_le_bytes, w64}
 use Rattle.std.specs.Io.KnownBytes.{prepend_known}
