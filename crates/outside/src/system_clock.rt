@@ -1,5 +1,6 @@
 //! An adapter over the clock of the system, which tells its count of faults alone.
-ghost use Rattle.std.specs.Prelude.{◌≡◌, None};
+ghost use Rattle.std.specs.Prelude.{◌≡◌, ◌/◌, None, IfSome};
+ghost use Rattle.std.specs.Time.{system_time_nanos};
 
 use crate::{Clock, Failed};
 use std::time::{self, SystemTime, UNIX_EPOCH};
@@ -11,9 +12,10 @@ pub struct SystemClock<'a, R> {
     faults: u64,
 }
 
-// Milliseconds since 1970 began.
-fn milliseconds<R: time::Clock>(runtime: &R) -> Option<u64> {
-    let now = SystemTime::now(runtime).ok()?;
+// The whole milliseconds since 1970 began, where 64 bits hold them.
+fn milliseconds(now: SystemTime) -> Option<u64>
+    ensures { IfSome result (λ ms. ms ≡ system_time_nanos now / 1000000) }
+{
     let since = now.duration_since(UNIX_EPOCH).ok()?;
     u64::try_from(since.as_millis()).ok()
 }
@@ -32,12 +34,12 @@ impl<'a, R: time::Clock> Clock for SystemClock<'a, R> {
     ghost clock_faults = { λ s. s.faults };
 
     fn now_ms(&mut self) -> Result<u64, Failed> {
-        match milliseconds(self.runtime) {
-            Some(moment) => Ok(moment),
-            None => {
-                self.faults = self.faults.saturating_add(1);
-                Err(Failed)
+        if let Ok(now) = SystemTime::now(self.runtime) {
+            if let Some(moment) = milliseconds(now) {
+                return Ok(moment);
             }
         }
+        self.faults = self.faults.saturating_add(1);
+        Err(Failed)
     }
 }
