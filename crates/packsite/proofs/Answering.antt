@@ -1,5 +1,5 @@
 -- Answering a request.
-use Rattle.std.proofs.Common.{◌≡◌, ◌≤◌, ◌<◌, ◌+◌, ℕ, Bool, true, false, List, [], ◌∷◌, ◌++◌, length, Option, Some, None, refl, ap, sym, ◌∙◌, subst, true≢false, arith}
+use Rattle.std.proofs.Common.{◌≡◌, ◌≤◌, ◌<◌, ◌+◌, ℕ, true, false, List, [], ◌∷◌, ◌++◌, length, Option, Some, None, refl, ap, sym, ◌∙◌, subst, true≢false, arith}
 use Rattle.std.specs.Prelude.{nat_eq}
 use Rattle.std.specs.Cmp.{nat_eq_equiv}
 use Rattle.deed_words.specs.Setups.{Setup}
@@ -7,8 +7,6 @@ use Rattle.deed_words.specs.World.{World}
 use Rattle.deed_words.specs.declared.entry.Ask.{Ask}
 use Rattle.deed_words.specs.declared.entry.Entry.{Entry}
 use Rattle.deed_words.specs.declared.rule.Rule.{Rule}
-use Rattle.deed_words.specs.declared.reply.Reply.{Reply}
-use Rattle.deed_words.specs.declared.reply.Reply.TheVariants.{Accepted, Refused}
 use Rattle.deed_words.specs.Rules.{broken}
 use Rattle.deed_words.specs.Replies.{reply_to, replied}
 use Rattle.deed_words.specs.History.{own, world_of, IsLawful, AllFollow, MayFollow, last_stamp}

@@ -1,15 +1,15 @@
 -- The six digits of a date are an expiry, and an order that was read is in its ranges.
-use Rattle.std.proofs.Common.{◌≡◌, ℕ, ◌+◌, ◌<◌, ◌≤◌, ◌%◌, Bool, true, false, List, [], ◌∷◌, length, Option, Some, None, arith, refl, ap, ◌∙◌, subst}
-use Rattle.std.specs.Prelude.{◌==◌, ◌&&◌, ◌||◌, ◌*◌, ◌-◌, if◌then◌else◌, nat_le, pos, slice_index}
+use Rattle.std.proofs.Common.{◌≡◌, ℕ, ◌+◌, ◌<◌, ◌≤◌, ◌%◌, Bool, true, false, List, [], ◌∷◌, None, arith, refl, ap, ◌∙◌, subst}
+use Rattle.std.specs.Prelude.{◌==◌, ◌||◌, ◌*◌, ◌-◌, if◌then◌else◌, nat_le, pos, slice_index}
 use Rattle.std.specs.Char.{is_ascii_digit}
 use Rattle.std.proofs.lemmas.Bool.{and_parts, le-leb}
 use Rattle.std.proofs.lemmas.Bool.Decides.{nat_tests}
 use Rattle.jiff.specs.Words.{is_leap_year, days_in_month}
 use Rattle.gs1_keys.specs.Keys.{is_digit, first_other}
-use Rattle.gs1_element.specs.Dates.{two_digits, days_in, date_fault, is_expiry}
+use Rattle.gs1_element.specs.Dates.{days_in, date_fault, is_expiry}
 use Rattle.deed_words.specs.Proper.{is_order}
 use Rattle.deed_words.specs.declared.deed.OrderRow.{OrderRow}
-use Rattle.packsite.specs.Dates.{is_day, is_date, is_byte, are_digits, number_of_two, six_digits}
+use Rattle.packsite.specs.Dates.{is_date, number_of_two, six_digits}
 
 -- the years 2000 to 2099 that four divides are leap years
 leap_years : (year : ℕ) → year < 100 → is_leap_year (pos (2000 + year)) ≡ (year % 4 == 0)

@@ -1,5 +1,5 @@
 -- A run that took all the bytes that it may take, and answered each whole line in them.
-use Rattle.std.proofs.Common.{◌≡◌, ◌≤◌, ◌<◌, ◌+◌, ℕ, suc, Bool, true, false, cond, not, List, [], ◌∷◌, ◌++◌, length, map, refl, sym, ap, ◌∙◌, subst, arith, append_assoc, inl, inr}
+use Rattle.std.proofs.Common.{◌≡◌, ◌<◌, ℕ, suc, Bool, true, false, cond, not, List, [], ◌∷◌, ◌++◌, length, refl, sym, ap, ◌∙◌, arith, append_assoc}
 use Rattle.std.specs.Prelude.{◌≢◌, Result, Ok, Err}
 use Rattle.std.specs.List.{All, flat_map, AllByRecursion as Every}
 use Rattle.std.proofs.lemmas.List.{length-map}
@@ -9,7 +9,7 @@ use Rattle.packsite.specs.declared.fault.Fault.{Fault}
 use Rattle.packsite.specs.declared.fault.Fault.TheVariants.{Read, Write, Memory, InputTooLong}
 use Rattle.packsite.specs.Limits.{input_limit}
 use Rattle.packsite.specs.Newline.{newline, HasNoNewline}
-use Rattle.packsite.specs.Lines.{Cuts, ended, is_empty, asked_lines}
+use Rattle.packsite.specs.Lines.{ended, is_empty, asked_lines}
 use Rattle.packsite.specs.Script.{Exchange, Talk, IsLineEnd, IsLimitEnd, AnswersWhole, StopsInside, Ended}
 
 abbrev Plain : List ℕ → Type 0

@@ -1,9 +1,9 @@
 -- The site that is served is proper, and its keys and names are such.
-use Rattle.std.proofs.Common.{◌≡◌, codes, refl, arith, ℕ, true}
+use Rattle.std.proofs.Common.{codes, refl, arith}
 use Rattle.std.specs.List.{IsDistinct}
 use Rattle.gs1_keys.specs.Keys.{IsGtin, IsText, IsGln, IsPrefix, gtin_of, text_of, gln_of, prefix_of, key_fault, check}
 use Rattle.deed_words.specs.Names.{same}
-use Rattle.deed_words.specs.Setups.{Setup, IsProper, begins_with, is_product, reference_bound, is_offset}
+use Rattle.deed_words.specs.Setups.{IsProper, begins_with, is_product, reference_bound, is_offset}
 use Rattle.packsite.specs.Site.{served_site}
 
 pub first_gtin : IsGtin (codes "00614141123452")

@@ -1,7 +1,6 @@
 -- What a line is answered, and what it does to the history.
 use Rattle.std.specs.Prelude.{◌≡◌, ◌≤◌, ◌+◌, ℕ, Bool, true, false, List, [], ◌∷◌, ◌++◌, Option, Some, None, length, codes}
 use Rattle.serde_json.specs.Written.{compact_text}
-use Rattle.deed_words.specs.declared.deed.Deed.{Deed}
 use Rattle.deed_words.specs.declared.entry.Ask.{Ask}
 use Rattle.deed_words.specs.declared.entry.Entry.{Entry}
 use Rattle.deed_words.specs.declared.reply.Reply.{Reply}

@@ -5,7 +5,6 @@ use Rattle.serde_json.specs.Data.{Data}
 use Rattle.serde_json.specs.Read.{read}
 use Rattle.serde_json.specs.Find.{get, as_str, as_number, as_u64}
 use Rattle.gs1_keys.specs.Keys.{is_between, gtin_of, text_of}
-use Rattle.deed_words.specs.declared.deed.OrderRow.{OrderRow}
 use Rattle.deed_words.specs.declared.deed.Deed.{Deed}
 use Rattle.deed_words.specs.declared.deed.Deed.TheVariants.{Order, Draw}
 use Rattle.deed_words.specs.declared.entry.Ask.{Ask}

@@ -1,4 +1,3 @@
-use Rattle.std.proofs.Common.{◌∙◌}
 use Rattle.packsite.proofs.Answering.{stands_on}
 use Rattle.packsite.proofs.answer.keep.Goals as goal
 

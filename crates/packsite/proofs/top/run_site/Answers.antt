@@ -1,12 +1,10 @@
-use Rattle.std.proofs.Common.{◌≡◌, [], refl, subst}
+use Rattle.std.proofs.Common.{[], refl}
 use Rattle.std.proofs.lemmas.Result.{err_from_is_err_and}
 use Rattle.packsite.specs.Site.{served_site}
 use Rattle.packsite.proofs.Answering.{lawful_none}
 use Rattle.packsite.proofs.Going.{start, no_memory}
 use Rattle.packsite.proofs.Promised.{promised}
 use Rattle.packsite.proofs.ServedSite.{is_proper}
-use Rattle.deed_words.specs.Setups.{Setup}
-use Rattle.packsite.specs.Script.{Talk, Ran}
 use Rattle.packsite.proofs.top.run_site.Goals as goal
 
 pub returns-in_err-setup-clause-ran : goal.returns-in_err-setup-clause-ran
