@@ -13,14 +13,18 @@ mod request;
 mod run;
 mod top;
 
-use outside::{RandomWords, Reading, Writing};
+use outside::{RandomWords, Reading, Writing, take_standard_streams};
 use std::process::ExitCode;
+use std::fs::File;
 use std::rt::{Env, Files};
 use std::{env, fs, io};
 use top::site_top;
 
 /// The status where a word of the command line isn't text.
 const BAD_WORDS: u8 = 2;
+
+/// The status where the standard streams can't be had.
+const INPUT_FAULT: u8 = 7;
 
 /// The status where memory is wanting.
 const NO_MEMORY: u8 = 11;
@@ -30,7 +34,10 @@ fn main(rt: HostRuntime) -> ExitCode {
 }
 
 /// Runs the program over the real devices.
-fn run_program<R: Env + Input + Print + Files + AllocGlobal>(rt: &R) -> u8 {
+fn run_program<R: Env + Input + Print + Files<File = File> + AllocGlobal>(rt: &R) -> u8 {
+    if take_standard_streams(rt).is_err() {
+        return INPUT_FAULT;
+    }
     let Ok(all) = env::args(rt) else {
         return BAD_WORDS;
     };
