@@ -41,17 +41,17 @@ use Rattle.deed_words.proofs.Items.{Every-weaker, Every-always, Every-map, find_
 use Rattle.deed_words.proofs.Broken.{when_None, each_when}
 use Rattle.deed_words.specs.Kept.{KeepsBatch, pairs_in, declared_in}
 use Rattle.deed_words.proofs.Allowed.{NoneOf, allowed, at_found, among_every, not_false}
-use Rattle.deed_words.proofs.SoundBatches.{in_phase-order, of_quantity-order}
+use Rattle.deed_words.proofs.SoundBatches.{KeepsNames, in_phase-names, of_quantity-names}
 use Rattle.deed_words.proofs.SoundPairs.{filter-filter}
 use Rattle.deed_words.proofs.SoundMoves.{among_chosen, among-take}
 use Rattle.deed_words.proofs.UnitCodes.{units_differ}
 use Rattle.deed_words.proofs.Soundness.{sound_after, nots}
 
-filter_none : {A : Type 0} (test : A → Bool) (xs : List A) → Every (λ x. test x ≡ false) xs → filter test xs ≡ []
+pub filter_none : {A : Type 0} (test : A → Bool) (xs : List A) → Every (λ x. test x ≡ false) xs → filter test xs ≡ []
 filter_none test [] a = refl
 filter_none {A} test (x ∷ xs) a = ap (λ b. cond b (x ∷ filter test xs) (filter test xs)) a.0 ∙ filter_none test xs a.1
 
-filter_others : {A : Type 0} (test : A → Bool) (xs more : List A) → Every (λ x. test x ≡ false) more → filter test (xs ++ more) ≡ filter test xs
+pub filter_others : {A : Type 0} (test : A → Bool) (xs more : List A) → Every (λ x. test x ≡ false) more → filter test (xs ++ more) ≡ filter test xs
 filter_others {A} test xs more a = filter-append test xs more ∙ ap (λ (ys : List A). filter test xs ++ ys) (filter_none test more a) ∙ append-nil (filter test xs)
 
 filter_still : {A : Type 0} (test : A → Bool) (f : A → A) → ((x : A) → test (f x) ≡ test x) → (xs : List A) → Every (λ x. test x ≡ true → f x ≡ x) xs → filter test (map f xs) ≡ filter test xs
@@ -64,7 +64,7 @@ filter_still {A} test f keeps (x ∷ xs) a =
       | false ↦ λ h. rest
     ]) a.0
 
-filter_same : {A : Type 0} (test other : A → Bool) (xs : List A) → Every (λ x. test x ≡ other x) xs → filter test xs ≡ filter other xs
+pub filter_same : {A : Type 0} (test other : A → Bool) (xs : List A) → Every (λ x. test x ≡ other x) xs → filter test xs ≡ filter other xs
 filter_same test other [] a = refl
 filter_same {A} test other (x ∷ xs) a = ap (λ b. cond b (x ∷ filter test xs) (filter test xs)) a.0 ∙ ap (λ (ys : List A). cond (other x) (x ∷ ys) ys) (filter_same test other xs a.1)
 
@@ -92,26 +92,26 @@ kept_orders w n batch rows at =
       declared = refl;
     }
 
-kept_batches : (w : World) (n t : Text) (batch : Batch) (f : Batch → Batch) → ((b : Batch) → (f b).order ≡ b.order) → ((b : Batch) → same b.order.batch t ≡ false → f b ≡ b) → batch_of w n ≡ Some batch → same t n ≡ false → KeepsBatch w (record w { batches = map f w.batches }) n
+kept_batches : (w : World) (n t : Text) (batch : Batch) (f : Batch → Batch) → KeepsNames f → ((b : Batch) → same b.order.batch t ≡ false → f b ≡ b) → batch_of w n ≡ Some batch → same t n ≡ false → KeepsBatch w (record w { batches = map f w.batches }) n
 unfolding batch_of rows_in units_in pairs_in declared_in batch_with unit_of
 kept_batches w n t batch f keeps still at other =
     let name : batch.order.batch ≡ n = same-true batch.order.batch n (find_passes (λ (b : Batch). same b.order.batch n) w.batches batch at) in
     let apart : same batch.order.batch t ≡ false = ap (λ (m : Text). same m t) name ∙ same_equiv.symm n t ∙ other in
     record {
-      batch = find-map (λ (b : Batch). same b.order.batch n) f (λ b. ap (λ (o : OrderRow). same o.batch n) (keeps b)) w.batches ∙ ap (option_map f) at ∙ ap Some (still batch apart) ∙ sym at;
+      batch = find-map (λ (b : Batch). same b.order.batch n) f (λ b. ap (λ (m : Text). same m n) (keeps.name b)) w.batches ∙ ap (option_map f) at ∙ ap Some (still batch apart) ∙ sym at;
       rows = refl;
       units = refl;
       pairs = refl;
       declared = refl;
     }
 
-in_phase-still : (to : Phase) (t : Text) (b : Batch) → same b.order.batch t ≡ false → in_phase to t b ≡ b
+pub in_phase-still : (to : Phase) (t : Text) (b : Batch) → same b.order.batch t ≡ false → in_phase to t b ≡ b
 unfolding in_phase
 in_phase-still to t b e = ap (λ c. if c then record b { phase = to } else b) e
 
 of_quantity-still : (q : ℕ) (t : Text) (b : Batch) → same b.order.batch t ≡ false → of_quantity q t b ≡ b
 unfolding of_quantity
-of_quantity-still q t b e = ap (λ c. if c then record b { quantity = q } else b) e
+of_quantity-still q t b e = rw e refl
 
 kept_drawn : (w : World) (n t : Text) (serials : List Text) → same t n ≡ false → KeepsBatch w (with_drawn w t serials) n
 unfolding batch_of rows_in units_in pairs_in declared_in batch_with unit_of with_drawn fresh_row
@@ -124,11 +124,11 @@ kept_drawn w n t serials other =
       declared = refl;
     }
 
-rewrite_batch : (change : Row → Row) → ((row : Row) → (change row).batch ≡ row.batch) → (names : List Epc) (row : Row) → (rewrite change names row).batch ≡ row.batch
+pub rewrite_batch : (change : Row → Row) → ((row : Row) → (change row).batch ≡ row.batch) → (names : List Epc) (row : Row) → (rewrite change names row).batch ≡ row.batch
 unfolding rewrite
 rewrite_batch change keeps names row = elim (is_among names (name_of row)) as (λ b. (if b then change row else row).batch ≡ row.batch) [ true ↦ keeps row | false ↦ refl ]
 
-rewrite_still : (change : Row → Row) (names : List Epc) (row : Row) → is_among names (name_of row) ≡ false → rewrite change names row ≡ row
+pub rewrite_still : (change : Row → Row) (names : List Epc) (row : Row) → is_among names (name_of row) ≡ false → rewrite change names row ≡ row
 unfolding rewrite
 rewrite_still change names row e = ap (λ b. if b then change row else row) e
 
@@ -181,11 +181,11 @@ kept_taken w n u keep from other =
       declared = refl;
     }
 
-marked-batch : (to : Mark) (c : Text) (u : Container) → (marked to c u).batch ≡ u.batch
+pub marked-batch : (to : Mark) (c : Text) (u : Container) → (marked to c u).batch ≡ u.batch
 unfolding marked
 marked-batch to c u = elim (same u.sscc c) as (λ b. (if b then record u { mark = to } else u).batch ≡ u.batch) [ true ↦ refl | false ↦ refl ]
 
-marked-code : (to : Mark) (c : Text) (u : Container) → (marked to c u).sscc ≡ u.sscc
+pub marked-code : (to : Mark) (c : Text) (u : Container) → (marked to c u).sscc ≡ u.sscc
 unfolding marked
 marked-code to c u = elim (same u.sscc c) as (λ b. (if b then record u { mark = to } else u).sscc ≡ u.sscc) [ true ↦ refl | false ↦ refl ]
 
@@ -193,7 +193,7 @@ marked-still : (to : Mark) (c : Text) (u : Container) → same u.sscc c ≡ fals
 unfolding marked
 marked-still to c u e = ap (λ b. if b then record u { mark = to } else u) e
 
-batch-of_mapped : (f : Container → Container) → ((u : Container) → (f u).batch ≡ u.batch) → (o : Option Container) → option_map_or (λ (u : Container). u.batch) (option_map f o) [] ≡ option_map_or (λ (u : Container). u.batch) o []
+pub batch-of_mapped : (f : Container → Container) → ((u : Container) → (f u).batch ≡ u.batch) → (o : Option Container) → option_map_or (λ (u : Container). u.batch) (option_map f o) [] ≡ option_map_or (λ (u : Container). u.batch) o []
 batch-of_mapped f keeps None = refl
 batch-of_mapped f keeps (Some u) = keeps u
 
@@ -277,9 +277,9 @@ kept_effect : (site : Setup) (w : World) (station : ℕ) (deed : Deed) (drawn : 
 unfolding NoneOf rules_of on_rows effect with_phase with_quantity other_batch named batch_named unit_named
 kept_effect site w station (Order row) drawn n batch p s at shut = kept_orders w n batch (row ∷ []) at
 kept_effect site w station (Orders rows) drawn n batch p s at shut = kept_orders w n batch rows at
-kept_effect site w station (Start t) drawn n batch p s at shut = kept_batches w n t batch (in_phase Started t) (in_phase-order Started t) (in_phase-still Started t) at (other_target site w station (Start t) n batch p.1.1.1.0 at shut)
-kept_effect site w station (Close t) drawn n batch p s at shut = kept_batches w n t batch (in_phase Closed t) (in_phase-order Closed t) (in_phase-still Closed t) at (other_target site w station (Close t) n batch p.1.1.1.0 at shut)
-kept_effect site w station (Amend t q) drawn n batch p s at shut = kept_batches w n t batch (of_quantity q t) (of_quantity-order q t) (of_quantity-still q t) at (other_target site w station (Amend t q) n batch p.1.1.0 at shut)
+kept_effect site w station (Start t) drawn n batch p s at shut = kept_batches w n t batch (in_phase Started t) (in_phase-names Started t) (in_phase-still Started t) at (other_target site w station (Start t) n batch p.1.1.1.0 at shut)
+kept_effect site w station (Close t) drawn n batch p s at shut = kept_batches w n t batch (in_phase Closed t) (in_phase-names Closed t) (in_phase-still Closed t) at (other_target site w station (Close t) n batch p.1.1.1.0 at shut)
+kept_effect site w station (Amend t q) drawn n batch p s at shut = kept_batches w n t batch (of_quantity q t) (of_quantity-names q t) (of_quantity-still q t) at (other_target site w station (Amend t q) n batch p.1.1.0 at shut)
 kept_effect site w station (Draw t count) drawn n batch p s at shut = kept_drawn w n t drawn (other_target site w station (Draw t count) n batch p.1.1.0 at shut)
 kept_effect site w station (Lend t count) drawn n batch p s at shut = kept_rewritten w n t (lent_to station) (map name_of (lent_rows w t count)) (λ row. refl) (lent_own site w t count s) (other_target site w station (Lend t count) n batch p.1.1.1.0 at shut)
 kept_effect site w station (MakeUnit t level) drawn n batch p s at shut = kept_unit site w n t level s (other_target site w station (MakeUnit t level) n batch p.1.1.1.0 at shut)

@@ -1,6 +1,7 @@
 -- The counts of a batch or a GTIN sum to what was drawn for it.
 use Rattle.std.proofs.Common.{◌≡◌, ℕ, suc, ◌+◌, Bool, true, false, cond, List, [], ◌∷◌, ◌++◌, length, map, sym, ◌∙◌, ap, refl, arith, Option, None, Some, add-zero, length-append, add_assoc}
-use Rattle.std.specs.Prelude.{if◌then◌else◌, filter}
+use Rattle.std.specs.Prelude.{if◌then◌else◌, filter, sum_by}
+use Rattle.std.proofs.lemmas.List.Sums.{sum_by-cons}
 use Rattle.std.proofs.lemmas.List.Elements.{filter-append}
 use Rattle.deed_words.specs.Names.{Text, same, is_among}
 use Rattle.epc_urn.specs.declared.epc.Epc.{Epc}
@@ -20,6 +21,7 @@ use Rattle.deed_words.specs.Tests.{rows_of_gtin}
 use Rattle.deed_words.specs.Effects.{effect, with_rows, rewrite, with_drawn, fresh_row, gtin_of, lent_to, moved_row, with_orders, with_phase, with_quantity, with_unit, with_mark, with_children, without_children, emptied, with_declaration, lent_rows}
 use Rattle.deed_words.specs.Replies.{after, unless_broken}
 use Rattle.deed_words.specs.Rules.{broken}
+use Rattle.deed_words.specs.Walk.{Step, steps_from}
 use Rattle.deed_words.specs.History.{world_from, world_of, AllFollow, IsLawful, MayDraw}
 use Rattle.deed_words.specs.Counts.{total, counts_of, counts_of_gtin, counts_over, is_unused, is_sampled, counts_as_rejected, is_gone, draws_for, drawn_of, draws_of, drawn_of_gtin, drawn_of_gtin_from}
 
@@ -27,7 +29,7 @@ add-zero-left : (n : ℕ) → 0 + n ≡ n
 add-zero-left n = omega arith
 
 -- each row is counted once
-total_over : (rows : List Row) → total (counts_over rows) ≡ length rows
+pub total_over : (rows : List Row) → total (counts_over rows) ≡ length rows
 unfolding counts_over how_many is_unused is_lent is_active is_sampled counts_as_rejected is_gone
 total_over [] = refl
 total_over (row ∷ rows) =
@@ -145,18 +147,21 @@ more_rows_after test is site w entry (Some rule) may =
     sym (add-zero _) ∙ ap (λ n. length (filter test w.rows) + n) (sym (refused_draws_nothing (draws test w entry.deed) entry.drawn (draws_none site w rule entry.deed entry.drawn may)))
 
 -- how many rows that meet the test the entries draw
+abbrev drawn_at : (Row → Bool) → Step → ℕ
+drawn_at test step = if draws test step.before step.entry.deed then length step.entry.drawn else 0
+
 abbrev drawn_meeting : (Row → Bool) → Setup → World → List Entry → ℕ
-drawn_meeting test site w [] = 0
-drawn_meeting test site w (entry ∷ entries) = (if draws test w entry.deed then length entry.drawn else 0) + drawn_meeting test site (after site w entry) entries
+drawn_meeting test site w entries = sum_by (drawn_at test) (steps_from site w entries)
 
 rows_drawn : (test : Row → Bool) → IsOfOrigin test → (site : Setup) (history : List Entry) (w : World) (entries : List Entry) → AllFollow site history w entries
     → length (filter test (world_from site w entries).rows) ≡ length (filter test w.rows) + drawn_meeting test site w entries
-unfolding world_from AllFollow after
+unfolding world_from steps_from AllFollow after
 rows_drawn test is site history w [] may = sym (add-zero _)
 rows_drawn test is site history w (entry ∷ entries) may =
     rows_drawn test is site (history ++ entry ∷ []) (after site w entry) entries may.1
     ∙ ap (λ n. n + drawn_meeting test site (after site w entry) entries) (more_rows_after test is site w entry (broken site w entry.station entry.deed) may.0.drawn)
     ∙ add_assoc (length (filter test w.rows)) _ _
+    ∙ ap (λ n. length (filter test w.rows) + n) (sym (sum_by-cons (drawn_at test) (record { before = w; entry = entry }) (steps_from site (after site w entry) entries)))
 
 draws_for-same : (w : World) (name : Text) (deed : Deed) → draws (λ row. same row.batch name) w deed ≡ draws_for name deed
 unfolding draws_for fresh_row
@@ -169,16 +174,24 @@ draws_of-same w gtin (Draw other count) = refl
 draws_of-same w gtin deed = refl
 
 drawn_of-same : (site : Setup) (w : World) (entries : List Entry) (name : Text) → drawn_meeting (λ row. same row.batch name) site w entries ≡ drawn_of entries name
-unfolding drawn_of
+unfolding drawn_of steps_from
 drawn_of-same site w [] name = refl
 drawn_of-same site w (entry ∷ entries) name =
-    rw (draws_for-same w name entry.deed) (ap (λ n. (if draws_for name entry.deed then length entry.drawn else 0) + n) (drawn_of-same site (after site w entry) entries name))
+    let test : Row → Bool = λ row. same row.batch name in
+    sum_by-cons (drawn_at test) (record { before = w; entry = entry }) (steps_from site (after site w entry) entries)
+    ∙ ap (λ b. (if b then length entry.drawn else 0) + drawn_meeting test site (after site w entry) entries) (draws_for-same w name entry.deed)
+    ∙ ap (λ n. (if draws_for name entry.deed then length entry.drawn else 0) + n) (drawn_of-same site (after site w entry) entries name)
+    ∙ sym (sum_by-cons (λ (e : Entry). if draws_for name e.deed then length e.drawn else 0) entry entries)
+
+pub sum_alike : {A : Type 0} (f g : A → ℕ) → ((x : A) → f x ≡ g x) → (xs : List A) → sum_by f xs ≡ sum_by g xs
+sum_alike f g e [] = refl
+sum_alike f g e (x ∷ xs) = let here = e x in let rest = sum_alike f g e xs in omega (arith, sum_by-cons f x xs, sum_by-cons g x xs, here, rest)
 
 drawn_of_gtin-same : (site : Setup) (w : World) (entries : List Entry) (gtin : Text) → drawn_meeting (λ row. same row.gtin gtin) site w entries ≡ drawn_of_gtin_from site w entries gtin
 unfolding drawn_of_gtin_from
-drawn_of_gtin-same site w [] gtin = refl
-drawn_of_gtin-same site w (entry ∷ entries) gtin =
-    rw (draws_of-same w gtin entry.deed) (ap (λ n. (if draws_of w gtin entry.deed then length entry.drawn else 0) + n) (drawn_of_gtin-same site (after site w entry) entries gtin))
+drawn_of_gtin-same site w entries gtin =
+    sum_alike (drawn_at (λ row. same row.gtin gtin)) (λ (step : Step). if draws_of step.before gtin step.entry.deed then length step.entry.drawn else 0)
+    (λ step. ap (λ b. if b then length step.entry.drawn else 0) (draws_of-same step.before gtin step.entry.deed)) (steps_from site w entries)
 
 pub counts_sum_up : (site : Setup) (history : List Entry) (name : Text) → IsLawful site history → total (counts_of (world_of site history) name) ≡ drawn_of history name
 unfolding world_of IsLawful counts_of rows_in

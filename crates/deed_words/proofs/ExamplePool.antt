@@ -7,7 +7,7 @@ use Rattle.deed_words.specs.declared.words.State.TheVariants.{Fresh}
 use Rattle.deed_words.specs.declared.words.What.TheVariants.{Serials}
 use Rattle.deed_words.specs.declared.deed.Deed.TheVariants.{Draw}
 use Rattle.deed_words.specs.declared.rule.Rule.{Rule}
-use Rattle.deed_words.specs.declared.rule.Rule.TheVariants.{PoolThin}
+use Rattle.deed_words.specs.declared.rule.Rule.TheVariants.{PoolThin, SiteFull}
 use Rattle.deed_words.specs.declared.world.Row.{Row}
 use Rattle.deed_words.specs.Names.{same}
 use Rattle.deed_words.specs.Chain.{first, when, holds_of}
@@ -55,3 +55,8 @@ two_asked = draw_from 499999 2 refl
 one_asked : broken site (pool (replicate 499999 row)) p1 (Draw batch 1) ≡ None
 unfolding first when full count_range
 one_asked = draw_from 499999 1 refl
+
+-- and where nearly a million serials are drawn
+two_too_many : broken site (pool (replicate 999999 row)) p1 (Draw batch 2) ≡ Some (SiteFull Serials 999999)
+unfolding first when full count_range
+two_too_many = draw_from 999999 2 refl

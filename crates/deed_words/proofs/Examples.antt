@@ -15,7 +15,7 @@ use Rattle.deed_words.specs.declared.rule.Finding.TheVariants as found
 use Rattle.deed_words.specs.declared.reply.Reply.TheVariants.{Accepted, Refused}
 use Rattle.deed_words.specs.declared.reply.Answer.TheVariants as answer
 use Rattle.deed_words.proofs.ExampleSite.{first_product, site, p1, l1, l2, q1, by, drawing, batch, order, serials, items, code, printed, unit, stand_in, replies, ok}
-use Rattle.deed_words.specs.Names.{same, same_name, is_among, same_order}
+use Rattle.deed_words.specs.Names.{Text, same, same_name, is_among, same_order}
 use Rattle.deed_words.specs.Setups.{Setup, role_of, product_of, half_pool, next_reference, reference_bound, code_of, IsForPlanner}
 use Rattle.deed_words.specs.World.{World, nothing_yet, batch_of, row_of, unit_of, parent, inside, rows_in, units_in, home}
 use Rattle.deed_words.specs.Accounts.{is_good, is_spoiled, is_returned, is_case, was_lent_to, rows_of_line, how_many, line_numbers, declared_numbers, has_line, has_pallets, stands_loose, differs, still_lent, still_rejected, unpacked, unit_open, unit_loose, not_declared, declared_differs, findings, finding}
@@ -23,12 +23,13 @@ use Rattle.deed_words.specs.Chain.{first, when, each_from, each, holds_of, is_em
 use Rattle.deed_words.specs.Counts.{is_unused, is_sampled, counts_as_rejected, is_gone, counts_over, counts_of, draws_for, drawn_of, counts_of_gtin, draws_of, drawn_of_gtin, drawn_of_gtin_from}
 use Rattle.deed_words.specs.Deeds.{order_rows, unit_named, batch_with, batch_named, batch_for, items_of, named}
 use Rattle.deed_words.specs.Effects.{with_orders, in_phase, with_phase, of_quantity, with_quantity, fresh_row, gtin_of, with_drawn, rewrite, with_rows, lent_rows, moved_row, with_unit, marked, with_mark, with_children, without_children, emptied, with_declaration, effect}
-use Rattle.deed_words.specs.History.{world_from, world_of, own, last_stamp, has_form, MayDraw, AllFollow, IsLawful, told_from, told_to}
+use Rattle.deed_words.specs.Walk.{steps_from}
+use Rattle.deed_words.specs.History.{world_from, world_of, own, last_stamp, MayDraw, AllFollow, IsLawful, told_from, told_to}
 use Rattle.deed_words.specs.Kept.{pairs_in, declared_in}
 use Rattle.deed_words.specs.Moves.{moved, is_fresh, is_lent, is_active, is_rejected, is_filling, is_sealed, is_void, told_state, told_mark}
 use Rattle.deed_words.specs.Numbers.{IsTold, Means}
-use Rattle.deed_words.specs.Once.{drawn_by, lent_by, commissioned_by, if_accepted, issued_from, code_made_by, codes_from}
-use Rattle.deed_words.specs.Orders.{is_ordered, new_orders, orders_in, conflicts, WasAccepted}
+use Rattle.deed_words.specs.Once.{drawn_by, lent_by, commissioned_by, if_accepted, issued_from, made_by, ordered_by}
+use Rattle.deed_words.specs.Orders.{is_ordered, new_orders, orders_in, conflicts}
 use Rattle.deed_words.specs.Replies.{orders_answer, answer_to, unless_broken, after, replied, reply_to}
 use Rattle.deed_words.specs.Roles.{is_planner, is_line, is_quality, is_line_or_quality, is_for}
 use Rattle.deed_words.specs.Rules.{on_rows, rules_of, broken}
@@ -59,7 +60,7 @@ packing =
     ∷ by l1 (deed.Pack (unit 1) (Box (unit 1) ∷ [])) ∷ by l1 (deed.Pack (unit 1) (Box (unit 2) ∷ [])) ∷ []
 
 -- a whole batch
-abbrev whole : List Entry
+abbrev pub whole : List Entry
 whole =
     by p1 (deed.Order (order 40 10 4)) ∷ by p1 (deed.Start batch) ∷ drawing (deed.Draw batch 50) (serials 1 50)
     ∷ by l1 (deed.Lend batch 22) ∷ by l2 (deed.Lend batch 22)
@@ -86,6 +87,10 @@ ordering =
     by p1 (deed.Orders (first_order ∷ second_order ∷ [])) ∷ by p1 (deed.Orders (first_order ∷ second_order ∷ []))
     ∷ by p1 (deed.Orders (first_order ∷ record second_order { quantity = 21 } ∷ [])) ∷ by p1 (deed.Orders [])
     ∷ by p1 (deed.Amend (codes "C2") 25) ∷ by p1 (deed.Orders (first_order ∷ second_order ∷ [])) ∷ []
+
+-- an equal row, and another one, within one request
+abbrev within_one : List Entry
+within_one = by p1 (deed.Orders (first_order ∷ first_order ∷ [])) ∷ by p1 (deed.Orders (second_order ∷ record second_order { quantity = 21 } ∷ [])) ∷ []
 
 -- a case of one, and what it refuses
 abbrev small : OrderRow
@@ -126,6 +131,29 @@ finding_more =
     ∷ by p1 (deed.Close batch) ∷ by q1 (deed.Reject batch (items 1 1)) ∷ by p1 (deed.Close batch) ∷ by q1 (deed.Reinstate batch (items 1 1))
     ∷ by l1 (deed.Container batch Case) ∷ by l1 (deed.Pack (unit 0) (items 1 1)) ∷ by p1 (deed.Close batch) ∷ by l1 (deed.Seal (unit 0)) ∷ by p1 (deed.Close batch)
     ∷ by l1 (deed.Container batch Pallet) ∷ by l1 (deed.Pack (unit 1) (Box (unit 0) ∷ [])) ∷ by l1 (deed.Seal (unit 1)) ∷ by l1 (deed.Declare batch 1 0 0) ∷ by p1 (deed.Close batch) ∷ []
+
+-- a second batch of the product
+abbrev other : Text
+other = codes "B8"
+
+-- two batches: what is of another batch, goes into no unit of the level, or isn't in the state for it
+abbrev mixing : List Entry
+mixing =
+    by p1 (deed.Order (order 40 2 2)) ∷ by p1 (deed.Order (record (order 40 2 2) { batch = other })) ∷ by p1 (deed.Start batch) ∷ by p1 (deed.Start other)
+    ∷ drawing (deed.Draw batch 4) (serials 1 4) ∷ drawing (deed.Draw other 2) (serials 5 2)
+    ∷ by l1 (deed.Lend batch 3) ∷ by l2 (deed.Lend batch 1) ∷ by l1 (deed.Lend other 2) ∷ by l1 (deed.Commission batch (printed 1 3)) ∷ by l1 (deed.Commission other (printed 5 1))
+    ∷ by l1 (deed.Container batch Case) ∷ by l1 (deed.Container batch Pallet) ∷ by l1 (deed.Container other Case) ∷ by l1 (deed.Container batch Case)
+    ∷ by q1 (deed.Sample batch (items 5 1)) ∷ by q1 (deed.Sample batch (Box (unit 0) ∷ [])) ∷ by l1 (deed.Pack (unit 0) (items 5 1)) ∷ by l1 (deed.Pack (unit 1) (Box (unit 2) ∷ []))
+    ∷ by l1 (deed.Pack (unit 1) (items 1 1)) ∷ by l1 (deed.Pack (unit 0) (items 4 1)) ∷ by l1 (deed.Pack (unit 1) (Box (unit 0) ∷ []))
+    ∷ by l1 (deed.Void (unit 3)) ∷ by l1 (deed.Pack (unit 1) (Box (unit 3) ∷ []))
+    ∷ by l1 (deed.Pack (unit 0) (items 1 2)) ∷ by l1 (deed.Seal (unit 0)) ∷ by l1 (deed.Pack (unit 1) (Box (unit 0) ∷ [])) ∷ by l1 (deed.Unseal (unit 0)) ∷ by l1 (deed.Seal (unit 1)) ∷ []
+
+-- and from there on: of each line the last declaration counts, and nothing is done with a unit of a closed batch
+abbrev settling : List Entry
+settling =
+    by q1 (deed.Sample batch (items 3 1)) ∷ by l2 (deed.Giveback batch (serials 4 1)) ∷ by l1 (deed.Declare batch 3 0 0) ∷ by l2 (deed.Declare batch 0 0 0) ∷ by p1 (deed.Close batch)
+    ∷ by l2 (deed.Declare batch 0 0 1) ∷ by l1 (deed.Declare batch 2 0 0) ∷ by p1 (deed.Close batch) ∷ by l1 (deed.Declare batch 3 0 0) ∷ by p1 (deed.Close batch)
+    ∷ by l1 (deed.Unseal (unit 1)) ∷ by l1 (deed.Pack (unit 1) (Box (unit 2) ∷ [])) ∷ by l1 (deed.Pack (unit 2) (items 5 1)) ∷ []
 
 -- a site that is full of units
 abbrev crowded : World
@@ -170,6 +198,7 @@ record Computed : Type 0 where
   ordering_replies :
       replies site nothing_yet ordering
       ≡ Accepted (answer.Orders 2 0) ∷ Accepted (answer.Orders 0 2) ∷ Refused (rule.OrderConflict 2) ∷ Refused (rule.CountOutOfRange 1000) ∷ ok ∷ Accepted (answer.Orders 0 2) ∷ []
+  within_one_replies : replies site nothing_yet within_one ≡ Accepted (answer.Orders 1 1) ∷ Refused (rule.OrderConflict 2) ∷ []
   refusing_replies :
       replies site nothing_yet refusing
       ≡ Refused rule.UnknownBatch ∷ Refused (rule.UnknownProduct 1) ∷ Accepted (answer.Orders 1 0) ∷ Refused (rule.OrderConflict 1) ∷ Accepted (answer.Orders 0 1)
@@ -194,10 +223,23 @@ record Computed : Type 0 where
       ∷ Refused (rule.NotAccounted (found.Unpacked (codes "0000000001"))) ∷ ok ∷ Refused (rule.NotAccounted (found.StillRejected (codes "0000000001"))) ∷ ok
       ∷ Accepted (answer.Made (unit 0)) ∷ ok ∷ Refused (rule.NotAccounted (found.UnitOpen (unit 0))) ∷ ok ∷ Refused (rule.NotAccounted (found.UnitLoose (unit 0)))
       ∷ Accepted (answer.Made (unit 1)) ∷ ok ∷ ok ∷ ok ∷ ok ∷ []
+  mixing_replies :
+      replies site nothing_yet mixing
+      ≡ Accepted (answer.Orders 1 0) ∷ Accepted (answer.Orders 1 0) ∷ ok ∷ ok ∷ Accepted (answer.Listed (serials 1 4)) ∷ Accepted (answer.Listed (serials 5 2))
+      ∷ Accepted (answer.Listed (serials 1 3)) ∷ Accepted (answer.Listed (serials 4 1)) ∷ Accepted (answer.Listed (serials 5 2)) ∷ ok ∷ ok
+      ∷ Accepted (answer.Made (unit 0)) ∷ Accepted (answer.Made (unit 1)) ∷ Accepted (answer.Made (unit 2)) ∷ Accepted (answer.Made (unit 3))
+      ∷ Refused (rule.OtherBatch 0) ∷ Refused (rule.UnknownSerial 0) ∷ Refused (rule.OtherBatch 0) ∷ Refused (rule.OtherBatch 0)
+      ∷ Refused (rule.WrongLevel 0) ∷ Refused (rule.WrongState 0 told.Lent) ∷ Refused (rule.WrongState 0 told.Filling)
+      ∷ ok ∷ Refused (rule.WrongState 0 told.Void) ∷ ok ∷ ok ∷ ok ∷ Refused (rule.HasParent 0 (unit 1)) ∷ ok ∷ []
+  settling_replies :
+      replies site (world_of site mixing) settling
+      ≡ ok ∷ ok ∷ ok ∷ ok ∷ Refused (rule.NotAccounted (found.DeclaredDiffers l2 (0 ∷ 0 ∷ 1 ∷ []) (0 ∷ 0 ∷ 0 ∷ [])))
+      ∷ ok ∷ ok ∷ Refused (rule.NotAccounted (found.DeclaredDiffers l1 (3 ∷ 0 ∷ 0 ∷ []) (2 ∷ 0 ∷ 0 ∷ []))) ∷ ok ∷ ok
+      ∷ Refused rule.BatchClosed ∷ Refused rule.BatchClosed ∷ ok ∷ []
   crowded_rule : broken site crowded l1 (deed.Container batch Case) ≡ Some (rule.SiteFull Units 65536)
 
 computed : Computed
-unfolding check issue is_good is_spoiled is_returned is_case was_lent_to rows_of_line how_many line_numbers declared_numbers has_line has_pallets stands_loose differs still_lent still_rejected unpacked unit_open unit_loose not_declared declared_differs findings finding first when each_from each holds_of is_empty numbers_below is_unused is_sampled counts_as_rejected is_gone counts_over counts_of draws_for drawn_of order_rows unit_named batch_with batch_named batch_for items_of named with_orders in_phase with_phase of_quantity with_quantity fresh_row gtin_of with_drawn rewrite with_rows lent_rows moved_row with_unit marked with_mark with_children without_children emptied with_declaration effect world_from world_of own last_stamp has_form MayDraw AllFollow IsLawful told_from told_to pairs_in declared_in moved is_fresh is_lent is_active is_rejected is_filling is_sealed is_void told_state told_mark same same_name is_among same_order IsTold Means drawn_by lent_by commissioned_by if_accepted issued_from code_made_by codes_from is_ordered new_orders orders_in conflicts WasAccepted orders_answer answer_to unless_broken after replied reply_to is_planner is_line is_quality is_line_or_quality is_for on_rows rules_of broken role_of product_of half_pool next_reference reference_bound code_of IsForPlanner HasBatch MayStandIn StandsRightly IsUntouched role_forbids unknown_product order_conflict unknown_batch unknown_unit is_planned is_started is_closed not_started started closed unit_void unit_sealed unit_not_sealed count_range out_of_range full site_full rows_of_gtin thin asked pool_thin fresh_rows few_fresh sscc_spent repeated is_known unknown_serial is_of fits_order strays other_batch takes misfits wrong_level unfit wrong_state other_line lent_to_other has_parent not_child room_of over unit_full unit_not_empty nothing_inside not_accounted batch_of row_of unit_of parent inside rows_in units_in home counts_of_gtin draws_of drawn_of_gtin_from
+unfolding check issue is_good is_spoiled is_returned is_case was_lent_to rows_of_line how_many line_numbers declared_numbers has_line has_pallets stands_loose differs still_lent still_rejected unpacked unit_open unit_loose not_declared declared_differs findings finding first when each_from each holds_of is_empty numbers_below is_unused is_sampled counts_as_rejected is_gone counts_over counts_of draws_for drawn_of order_rows unit_named batch_with batch_named batch_for items_of named with_orders in_phase with_phase of_quantity with_quantity fresh_row gtin_of with_drawn rewrite with_rows lent_rows moved_row with_unit marked with_mark with_children without_children emptied with_declaration effect world_from world_of own last_stamp MayDraw AllFollow IsLawful steps_from told_from told_to pairs_in declared_in moved is_fresh is_lent is_active is_rejected is_filling is_sealed is_void told_state told_mark same same_name is_among same_order IsTold Means drawn_by lent_by commissioned_by if_accepted issued_from made_by ordered_by is_ordered new_orders orders_in conflicts orders_answer answer_to unless_broken after replied reply_to is_planner is_line is_quality is_line_or_quality is_for on_rows rules_of broken role_of product_of half_pool next_reference reference_bound code_of IsForPlanner HasBatch MayStandIn StandsRightly IsUntouched role_forbids unknown_product order_conflict unknown_batch unknown_unit is_planned is_started is_closed not_started started closed unit_void unit_sealed unit_not_sealed count_range out_of_range full site_full rows_of_gtin thin asked pool_thin fresh_rows few_fresh sscc_spent repeated is_known unknown_serial is_of fits_order strays other_batch takes misfits wrong_level unfit wrong_state other_line lent_to_other has_parent not_child room_of over unit_full unit_not_empty nothing_inside not_accounted batch_of row_of unit_of parent inside rows_in units_in home counts_of_gtin draws_of drawn_of_gtin_from
 computed = record {
   lending_replies = refl;
   lending_counts = refl;
@@ -212,9 +254,12 @@ computed = record {
   whole_packing = refl;
   whole_size = (refl, refl);
   ordering_replies = refl;
+  within_one_replies = refl;
   refusing_replies = refl;
   of_two_replies = refl;
   spending_replies = refl;
   finding_more_replies = refl;
+  mixing_replies = refl;
+  settling_replies = refl;
   crowded_rule = refl;
 }

@@ -27,6 +27,7 @@ use Rattle.deed_words.specs.Tests.{Test, fresh_rows, repeated, unknown_serial, i
 use Rattle.deed_words.specs.Rules.{broken, rules_of, on_rows}
 use Rattle.deed_words.specs.Effects.{effect, with_orders, with_phase, with_quantity, fresh_row, gtin_of, with_drawn, rewrite, with_rows, lent_rows, lent_to, moved_row, with_unit, with_mark, with_children, without_children, emptied, with_declaration}
 use Rattle.deed_words.specs.Replies.{after, unless_broken}
+use Rattle.deed_words.specs.Walk.{steps_from}
 use Rattle.deed_words.specs.History.{world_from, world_of, AllFollow, IsLawful, MayDraw}
 use Rattle.deed_words.specs.Sound.{IsSound}
 use Rattle.deed_words.proofs.Sameness.{same_name-true, same_name-itself, same_name_equiv}
@@ -49,7 +50,7 @@ fresh-state state.Sampled e = absurd (true≢false (sym e))
 fresh-state state.Rejected e = absurd (true≢false (sym e))
 fresh-state state.Gone e = absurd (true≢false (sym e))
 
-lent_are_fresh : (site : Setup) (w : World) (n : Text) (count : ℕ) → IsSound site w → Every (λ (row : Row). is_among (map name_of (lent_rows w n count)) (name_of row) ≡ true → is_fresh row.state ≡ true) w.rows
+pub lent_are_fresh : (site : Setup) (w : World) (n : Text) (count : ℕ) → IsSound site w → Every (λ (row : Row). is_among (map name_of (lent_rows w n count)) (name_of row) ≡ true → is_fresh row.state ≡ true) w.rows
 unfolding lent_rows fresh_rows
 lent_are_fresh site w n count s =
     let test : Row → Bool = λ row. same row.batch n && is_fresh row.state in
@@ -189,7 +190,7 @@ step late o by each site w entry (Some rule) e may s names l = (issues_nothing l
 all_differ : (late : State → Bool) → IsOneWay late → (by : World → Deed → List Text → List Epc)
     → ((site : Setup) (w : World) (station : ℕ) (deed : Deed) (drawn : List Text) → NoneOf (map (λ (test : Test). test site w station deed) (rules_of deed)) → MayDraw site w None deed drawn → IsSound site w → Issues late w (effect site w station deed drawn) (by w deed drawn))
     → (site : Setup) (history : List Entry) (w : World) (entries : List Entry) (names : List Epc) → AllFollow site history w entries → IsSound site w → IsDistinct same_name names → Every (IsLate late w) names → IsDistinct same_name (names ++ issued_from by site w entries)
-unfolding AllFollow issued_from after
+unfolding AllFollow issued_from steps_from after
 all_differ late o by each site history w [] names may s d l = subst (IsDistinct same_name) (sym (append-nil names)) d
 all_differ late o by each site history w (entry ∷ entries) names may s d l =
     let new : List Epc = if_accepted (broken site w entry.station entry.deed) (by w entry.deed entry.drawn) in
@@ -228,8 +229,8 @@ unfolding unless_broken if_accepted
 grow_unless site w entry None = rows_grow site w entry.station entry.deed entry.drawn
 grow_unless site w entry (Some rule) = sym (append-nil (map name_of w.rows))
 
-names_drawn : (site : Setup) (w : World) (entries : List Entry) → map name_of (world_from site w entries).rows ≡ map name_of w.rows ++ issued_from drawn_by site w entries
-unfolding world_from issued_from after
+pub names_drawn : (site : Setup) (w : World) (entries : List Entry) → map name_of (world_from site w entries).rows ≡ map name_of w.rows ++ issued_from drawn_by site w entries
+unfolding world_from issued_from steps_from after
 names_drawn site w [] = sym (append-nil (map name_of w.rows))
 names_drawn site w (entry ∷ entries) =
     names_drawn site (after site w entry) entries

@@ -1,26 +1,32 @@
-mod ExampleSite
-mod Examples
+pub mod ExampleSite
+pub mod Examples
 mod ExamplePool
 mod ExampleHistory
+mod ExampleFull
 pub mod Sameness
 mod Counting
 pub mod Following
 pub mod Items
 pub mod Broken
-mod Rewriting
-mod Standing
-mod SoundBatches
-mod SoundRows
-mod UnitCodes
-mod SoundUnits
-mod SoundPairs
+pub mod Rewriting
+pub mod Standing
+pub mod SoundBatches
+pub mod SoundRows
+pub mod UnitCodes
+pub mod SoundUnits
+pub mod SoundPairs
 pub mod Allowed
-mod SoundMoves
+mod Unknown
+pub mod SoundMoves
 pub mod Soundness
-mod IssuedOnce
+pub mod IssuedOnce
 mod MadeOnce
 pub mod OrdersAgain
-mod ClosedKept
+pub mod OrdersKept
+mod ProperlyKept
+mod Deciding
+mod Numbered
+pub mod ClosedKept
 mod AccountedFor
 mod Differing
 mod Nesting

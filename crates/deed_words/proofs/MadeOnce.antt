@@ -16,9 +16,10 @@ use Rattle.deed_words.specs.World.{World, nothing_yet}
 use Rattle.deed_words.specs.Rules.{broken}
 use Rattle.deed_words.specs.Effects.{effect, with_orders, with_phase, with_quantity, with_drawn, with_rows, with_unit, marked, with_mark, with_children, without_children, emptied, with_declaration}
 use Rattle.deed_words.specs.Replies.{after, unless_broken}
+use Rattle.deed_words.specs.Walk.{steps_from}
 use Rattle.deed_words.specs.History.{world_from, world_of, IsLawful}
 use Rattle.deed_words.proofs.Items.{map-map}
-use Rattle.deed_words.specs.Once.{code_made_by, codes_from, all_codes_made}
+use Rattle.deed_words.specs.Once.{made_by, if_accepted, issued_from, all_codes_made}
 use Rattle.deed_words.proofs.UnitCodes.{units_differ}
 use Rattle.deed_words.proofs.Soundness.{lawful_is_sound}
 
@@ -29,32 +30,31 @@ code_kept : (to : Mark) (sscc : Text) (u : Container) → (marked to sscc u).ssc
 unfolding marked
 code_kept to sscc u = elim (same u.sscc sscc) as (λ b. (if b then record u { mark = to } else u).sscc ≡ u.sscc) [ true ↦ refl | false ↦ refl ]
 
-units_grow : (site : Setup) (w : World) (station : ℕ) (deed : Deed) (drawn : List Text) → map (λ (u : Container). u.sscc) (effect site w station deed drawn).units ≡ map (λ (u : Container). u.sscc) w.units ++ code_made_by site w deed None
-unfolding effect code_made_by with_orders with_phase with_quantity with_unit with_mark with_children without_children emptied with_declaration with_rows with_drawn
+units_grow : (site : Setup) (w : World) (station : ℕ) (deed : Deed) (drawn : List Text) → map (λ (u : Container). u.sscc) (effect site w station deed drawn).units ≡ map (λ (u : Container). u.sscc) w.units ++ made_by site w deed drawn
+unfolding effect made_by with_orders with_phase with_quantity with_unit with_mark with_children without_children emptied with_declaration with_rows with_drawn
 units_grow site w station (MakeUnit name level) drawn = map-append (λ (u : Container). u.sscc) w.units _
 units_grow site w station (Seal unit) drawn = map-map (λ (u : Container). u.sscc) (marked mark.Sealed unit) (code_kept mark.Sealed unit) w.units ∙ sym (append-nil _)
 units_grow site w station (Unseal unit) drawn = map-map (λ (u : Container). u.sscc) (marked mark.Filling unit) (code_kept mark.Filling unit) w.units ∙ sym (append-nil _)
 units_grow site w station (Void unit) drawn = map-map (λ (u : Container). u.sscc) (marked mark.Void unit) (code_kept mark.Void unit) w.units ∙ sym (append-nil _)
 units_grow site w station deed drawn = sym (append-nil _)
 
-none_made : (site : Setup) (w : World) (deed : Deed) (rule : Rule) → code_made_by site w deed (Some rule) ≡ []
-unfolding code_made_by
-none_made site w (MakeUnit name level) rule = refl
-none_made site w deed rule = refl
-
-grow_unless : (site : Setup) (w : World) (entry : Entry) (rule : Option Rule) → map (λ (u : Container). u.sscc) (unless_broken site w entry rule).units ≡ map (λ (u : Container). u.sscc) w.units ++ code_made_by site w entry.deed rule
-unfolding unless_broken
+grow_unless : (site : Setup) (w : World) (entry : Entry) (rule : Option Rule) → map (λ (u : Container). u.sscc) (unless_broken site w entry rule).units ≡ map (λ (u : Container). u.sscc) w.units ++ if_accepted rule (made_by site w entry.deed entry.drawn)
+unfolding unless_broken if_accepted
 grow_unless site w entry None = units_grow site w entry.station entry.deed entry.drawn
-grow_unless site w entry (Some rule) = sym (append-nil _) ∙ ap (λ (cs : List Text). map (λ (u : Container). u.sscc) w.units ++ cs) (sym (none_made site w entry.deed rule))
+grow_unless site w entry (Some rule) = sym (append-nil _)
 
-codes_grow : (site : Setup) (w : World) (entries : List Entry) → map (λ (u : Container). u.sscc) (world_from site w entries).units ≡ map (λ (u : Container). u.sscc) w.units ++ codes_from site w entries
-unfolding world_from codes_from after
+codes_grow : (site : Setup) (w : World) (entries : List Entry) → map (λ (u : Container). u.sscc) (world_from site w entries).units ≡ map (λ (u : Container). u.sscc) w.units ++ issued_from (made_by site) site w entries
+unfolding world_from issued_from steps_from after
 codes_grow site w [] = sym (append-nil _)
 codes_grow site w (entry ∷ entries) =
     codes_grow site (after site w entry) entries
-    ∙ ap (λ (cs : List Text). cs ++ codes_from site (after site w entry) entries) (grow_unless site w entry (broken site w entry.station entry.deed))
+    ∙ ap (λ (cs : List Text). cs ++ issued_from (made_by site) site (after site w entry) entries) (grow_unless site w entry (broken site w entry.station entry.deed))
     ∙ append_assoc (map (λ (u : Container). u.sscc) w.units) _ _
 
 pub codes_once : (site : Setup) (history : List Entry) → IsProper site → IsLawful site history → IsDistinct same (all_codes_made site history)
 unfolding world_of
 codes_once site history proper lawful = subst (IsDistinct same) (codes_grow site nothing_yet history) (units_differ site (world_of site history) (lawful_is_sound site history proper lawful))
+
+pub codes_of_units : (site : Setup) (history : List Entry) → map (λ unit. unit.sscc) (world_of site history).units ≡ all_codes_made site history
+unfolding world_of
+codes_of_units site history = codes_grow site nothing_yet history

@@ -1,4 +1,4 @@
--- Order rows that were accepted before change nothing.
+-- Order rows whose batches stand with just these orders change nothing.
 use Rattle.std.proofs.Common.{◌≡◌, ℕ, suc, ◌+◌, ◌-◌, ◌≤◌, ◌<◌, Bool, true, false, cond, ◌||◌, not, List, [], ◌∷◌, ◌++◌, length, map, sym, ◌∙◌, ap, refl, arith, Option, None, Some, append-nil}
 use Rattle.std.specs.Prelude.{if◌then◌else◌, find, option_map, is_none, nat_lt, nat_eq}
 use Rattle.std.specs.List.{AllByRecursion as Every, list_any}
@@ -16,7 +16,7 @@ use Rattle.deed_words.specs.declared.world.Batch.{Batch}
 use Rattle.deed_words.specs.Chain.{first, when, each, each_from, holds_of, is_empty}
 use Rattle.deed_words.specs.World.{World, nothing_yet, batch_of}
 use Rattle.deed_words.specs.Deeds.{order_rows}
-use Rattle.deed_words.specs.Orders.{planned, is_ordered, new_orders, orders_in, conflicts, WasAccepted}
+use Rattle.deed_words.specs.Orders.{planned, is_ordered, new_orders, orders_in, conflicts}
 use Rattle.deed_words.specs.Tests.{Test, role_forbids, unknown_product, order_conflict, out_of_range, site_full, full}
 use Rattle.deed_words.specs.Rules.{broken, rules_of, on_rows}
 use Rattle.deed_words.specs.Effects.{effect, with_orders, in_phase, with_phase, of_quantity, with_quantity, with_drawn, with_rows, with_unit, with_mark, with_children, without_children, emptied, with_declaration}
@@ -28,7 +28,7 @@ use Rattle.deed_words.proofs.Items.{Every-append, Every-weaker, Every-map, find_
 use Rattle.deed_words.proofs.Broken.{each_when}
 use Rattle.deed_words.proofs.Allowed.{NoneOf, allowed}
 use Rattle.deed_words.proofs.Soundness.{lawful_is_sound}
-use Rattle.deed_words.proofs.SoundBatches.{in_phase-order, of_quantity-order}
+use Rattle.deed_words.proofs.SoundBatches.{KeepsNames, in_phase-names, of_quantity-names}
 use Rattle.std.proofs.lemmas.Bool.Decides.{nat_tests}
 use Rattle.std.specs.Cmp.{nat_eq_equiv}
 use Rattle.deed_words.specs.Roles.{is_for, is_planner}
@@ -39,14 +39,14 @@ use Rattle.deed_words.specs.declared.reply.Answer.TheVariants as told
 
 -- each batch of a lawful history is of a product
 
-OfProduct : Setup → Batch → Type 0
+unfoldable pub OfProduct : Setup → Batch → Type 0
 OfProduct site batch = is_none (product_of site batch.order.gtin) ≡ false
 
-product_kept : (site : Setup) (f : Batch → Batch) → ((b : Batch) → (f b).order ≡ b.order) → (bs : List Batch) → Every (OfProduct site) bs → Every (OfProduct site) (map f bs)
+product_kept : (site : Setup) (f : Batch → Batch) → KeepsNames f → (bs : List Batch) → Every (OfProduct site) bs → Every (OfProduct site) (map f bs)
 unfolding OfProduct
-product_kept site f keeps bs a = Every-map (OfProduct site) f bs (Every-weaker (OfProduct site) (λ (b : Batch). OfProduct site (f b)) (λ b h. ap (λ (o : OrderRow). is_none (product_of site o.gtin)) (keeps b) ∙ h) bs a)
+product_kept site f keeps bs a = Every-map (OfProduct site) f bs (Every-weaker (OfProduct site) (λ (b : Batch). OfProduct site (f b)) (λ b h. ap (λ (g : Text). is_none (product_of site g)) (keeps.gtin b) ∙ h) bs a)
 
-Every-new : (P : OrderRow → Type 0) (orders rows : List OrderRow) → Every P rows → Every P (new_orders orders rows)
+pub Every-new : (P : OrderRow → Type 0) (orders rows : List OrderRow) → Every P rows → Every P (new_orders orders rows)
 unfolding new_orders
 Every-new P orders [] a = tt
 Every-new P orders (row ∷ rows) a =
@@ -62,22 +62,26 @@ products_effect : (site : Setup) (w : World) (station : ℕ) (deed : Deed) (draw
 unfolding NoneOf rules_of on_rows effect order_rows unknown_product with_phase with_quantity with_unit with_mark with_children without_children emptied with_declaration with_rows with_drawn
 products_effect site w station (Order row) drawn p a = products_added site w (row ∷ []) p.1.0 a
 products_effect site w station (Orders rows) drawn p a = products_added site w rows p.1.0 a
-products_effect site w station (Start name) drawn p a = product_kept site (in_phase Started name) (in_phase-order Started name) w.batches a
-products_effect site w station (Close name) drawn p a = product_kept site (in_phase Closed name) (in_phase-order Closed name) w.batches a
-products_effect site w station (Amend name quantity) drawn p a = product_kept site (of_quantity quantity name) (of_quantity-order quantity name) w.batches a
+products_effect site w station (Start name) drawn p a = product_kept site (in_phase Started name) (in_phase-names Started name) w.batches a
+products_effect site w station (Close name) drawn p a = product_kept site (in_phase Closed name) (in_phase-names Closed name) w.batches a
+products_effect site w station (Amend name quantity) drawn p a = product_kept site (of_quantity quantity name) (of_quantity-names quantity name) w.batches a
 products_effect site w station deed drawn p a = a
 
-products_unless : (site : Setup) (w : World) (entry : Entry) (rule : Option Rule) → broken site w entry.station entry.deed ≡ rule → Every (OfProduct site) w.batches → Every (OfProduct site) (unless_broken site w entry rule).batches
+pub products_unless : (site : Setup) (w : World) (entry : Entry) (rule : Option Rule) → broken site w entry.station entry.deed ≡ rule → Every (OfProduct site) w.batches → Every (OfProduct site) (unless_broken site w entry rule).batches
 unfolding unless_broken
 products_unless site w entry None e a = products_effect site w entry.station entry.deed entry.drawn (allowed site w entry.station entry.deed e) a
 products_unless site w entry (Some rule) e a = a
 
-products_from : (site : Setup) (w : World) (entries : List Entry) → Every (OfProduct site) w.batches → Every (OfProduct site) (world_from site w entries).batches
+pub products_from : (site : Setup) (w : World) (entries : List Entry) → Every (OfProduct site) w.batches → Every (OfProduct site) (world_from site w entries).batches
 unfolding world_from after
 products_from site w [] a = a
 products_from site w (entry ∷ entries) a = products_from site (after site w entry) entries (products_unless site w entry (broken site w entry.station entry.deed) refl a)
 
 -- the rows again
+
+-- the batch of the row stands, and its order is this row
+unfoldable pub WasAccepted : World → OrderRow → Type 0
+WasAccepted w row = (batch : Batch) × (batch_of w row.batch ≡ Some batch) × (batch.order ≡ row)
 
 none_new : (orders rows : List OrderRow) → Every (λ (r : OrderRow). is_ordered orders r.batch ≡ true) rows → new_orders orders rows ≡ []
 unfolding new_orders

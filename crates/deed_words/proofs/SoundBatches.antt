@@ -31,25 +31,30 @@ is_some-option_map : {A B : Type 0} (f : A → B) (o : Option A) → is_some (op
 is_some-option_map f None = refl
 is_some-option_map f (Some x) = refl
 
--- a change of batches that keeps orders, and makes none Planned
-pub sound_batches : (site : Setup) (w : World) (f : Batch → Batch) → ((b : Batch) → (f b).order ≡ b.order) → ((b : Batch) → (f b).phase ≡ Planned → b.phase ≡ Planned)
+-- a change of batches that keeps what their serials and units lean on: the name and the GTIN
+pub record KeepsNames (f : Batch → Batch) : Type 0 where
+  pub name : (b : Batch) → (f b).order.batch ≡ b.order.batch
+  pub gtin : (b : Batch) → (f b).order.gtin ≡ b.order.gtin
+
+-- a change of batches that keeps their names, and makes none Planned
+pub sound_batches : (site : Setup) (w : World) (f : Batch → Batch) → KeepsNames f → ((b : Batch) → (f b).phase ≡ Planned → b.phase ≡ Planned)
     → IsSound site w → IsSound site (record w { batches = map f w.batches })
 unfolding batch_of row_of unit_of inside rows_in units_in HasBatch IsUntouched
 sound_batches site w f keeps plan s =
     let w' : World = record w { batches = map f w.batches } in
     let test : Text → Batch → Bool = λ n b. same b.order.batch n in
-    let found : (n : Text) → find (test n) (map f w.batches) ≡ option_map f (find (test n) w.batches) = λ n. find-map (test n) f (λ b. ap (λ (o : OrderRow). same o.batch n) (keeps b)) w.batches in
+    let found : (n : Text) → find (test n) (map f w.batches) ≡ option_map f (find (test n) w.batches) = λ n. find-map (test n) f (λ b. ap (λ (m : Text). same m n) (keeps.name b)) w.batches in
     record {
-      batches_differ = subst (IsDistinct same) (sym (map-map (λ (b : Batch). b.order.batch) f (λ b. ap (λ (o : OrderRow). o.batch) (keeps b)) w.batches)) s.batches_differ;
+      batches_differ = subst (IsDistinct same) (sym (map-map (λ (b : Batch). b.order.batch) f keeps.name w.batches)) s.batches_differ;
       rows_differ = s.rows_differ;
-      of_a_batch = Every-weaker (HasBatch w) (HasBatch w') (λ row h. (f h.0, found row.batch ∙ ap (option_map f) h.1, ap (λ (o : OrderRow). o.gtin) (keeps h.0) ∙ h.2)) w.rows s.of_a_batch;
+      of_a_batch = Every-weaker (HasBatch w) (HasBatch w') (λ row h. (f h.0, found row.batch ∙ ap (option_map f) h.1, keeps.gtin h.0 ∙ h.2)) w.rows s.of_a_batch;
       units_of_a_batch = Every-weaker (λ (u : Container). is_some (find (test u.batch) w.batches) ≡ true) (λ (u : Container). is_some (find (test u.batch) (map f w.batches)) ≡ true) (λ u h. ap is_some (found u.batch) ∙ is_some-option_map f (find (test u.batch) w.batches) ∙ h) w.units s.units_of_a_batch;
       issued = s.issued;
       fresh = s.fresh;
       one_parent = s.one_parent;
       packed = stand_still w w' (λ g n. refl) (λ n. refl) w.pairs s.packed;
       sealed = s.sealed;
-      planned = Every-map (IsUntouched w') f w.batches (Every-weaker (IsUntouched w) (λ (b : Batch). IsUntouched w' (f b)) (λ b u p. subst (λ (n : Text). Every (λ (row : Row). is_fresh row.state ≡ true) (filter (λ (row : Row). same row.batch n) w.rows) × (is_empty (filter (λ (unit : Container). same unit.batch n) w.units) ≡ true)) (ap (λ (o : OrderRow). o.batch) (sym (keeps b))) (u (plan b p))) w.batches s.planned);
+      planned = Every-map (IsUntouched w') f w.batches (Every-weaker (IsUntouched w) (λ (b : Batch). IsUntouched w' (f b)) (λ b u p. subst (λ (n : Text). Every (λ (row : Row). is_fresh row.state ≡ true) (filter (λ (row : Row). same row.batch n) w.rows) × (is_empty (filter (λ (unit : Container). same unit.batch n) w.units) ≡ true)) (sym (keeps.name b)) (u (plan b p))) w.batches s.planned);
       in_range = s.in_range;
       few_serials = s.few_serials;
       few_units = s.few_units;
@@ -60,6 +65,9 @@ pub in_phase-order : (to : Phase) (n : Text) (b : Batch) → (in_phase to n b).o
 unfolding in_phase
 in_phase-order to n b = elim (same b.order.batch n) as (λ c. (if c then record b { phase = to } else b).order ≡ b.order) [ true ↦ refl | false ↦ refl ]
 
+pub in_phase-names : (to : Phase) (n : Text) → KeepsNames (in_phase to n)
+in_phase-names to n = record { name = λ b. ap (λ (o : OrderRow). o.batch) (in_phase-order to n b); gtin = λ b. ap (λ (o : OrderRow). o.gtin) (in_phase-order to n b) }
+
 in_phase-planned : (to : Phase) (n : Text) → (to ≡ Planned → ⊥) → (b : Batch) → (in_phase to n b).phase ≡ Planned → b.phase ≡ Planned
 unfolding in_phase
 in_phase-planned to n other b =
@@ -67,19 +75,23 @@ in_phase-planned to n other b =
 
 pub sound_phase : (site : Setup) (w : World) (to : Phase) (n : Text) → (to ≡ Planned → ⊥) → IsSound site w → IsSound site (with_phase w to n)
 unfolding with_phase
-sound_phase site w to n other s = sound_batches site w (in_phase to n) (in_phase-order to n) (in_phase-planned to n other) s
+sound_phase site w to n other s = sound_batches site w (in_phase to n) (in_phase-names to n) (in_phase-planned to n other) s
 
-pub of_quantity-order : (q : ℕ) (n : Text) (b : Batch) → (of_quantity q n b).order ≡ b.order
+pub of_quantity-names : (q : ℕ) (n : Text) → KeepsNames (of_quantity q n)
 unfolding of_quantity
-of_quantity-order q n b = elim (same b.order.batch n) as (λ c. (if c then record b { quantity = q } else b).order ≡ b.order) [ true ↦ refl | false ↦ refl ]
+of_quantity-names q n =
+    let named : (b : Batch) (c : Bool) → same b.order.batch n ≡ c → (of_quantity q n b).order.batch ≡ b.order.batch = λ b c. elim c as (λ c. same b.order.batch n ≡ c → (of_quantity q n b).order.batch ≡ b.order.batch) [ true ↦ λ e. rw e refl | false ↦ λ e. rw e refl ] in
+    let made : (b : Batch) (c : Bool) → same b.order.batch n ≡ c → (of_quantity q n b).order.gtin ≡ b.order.gtin = λ b c. elim c as (λ c. same b.order.batch n ≡ c → (of_quantity q n b).order.gtin ≡ b.order.gtin) [ true ↦ λ e. rw e refl | false ↦ λ e. rw e refl ] in
+    record { name = λ b. named b (same b.order.batch n) refl; gtin = λ b. made b (same b.order.batch n) refl }
 
 of_quantity-phase : (q : ℕ) (n : Text) (b : Batch) → (of_quantity q n b).phase ≡ b.phase
 unfolding of_quantity
-of_quantity-phase q n b = elim (same b.order.batch n) as (λ c. (if c then record b { quantity = q } else b).phase ≡ b.phase) [ true ↦ refl | false ↦ refl ]
+of_quantity-phase q n b =
+    (elim (same b.order.batch n) as (λ c. same b.order.batch n ≡ c → (of_quantity q n b).phase ≡ b.phase) [ true ↦ λ e. rw e refl | false ↦ λ e. rw e refl ]) refl
 
 pub sound_quantity : (site : Setup) (w : World) (q : ℕ) (n : Text) → IsSound site w → IsSound site (with_quantity w q n)
 unfolding with_quantity
-sound_quantity site w q n s = sound_batches site w (of_quantity q n) (of_quantity-order q n) (λ b e. sym (of_quantity-phase q n b) ∙ e) s
+sound_quantity site w q n s = sound_batches site w (of_quantity q n) (of_quantity-names q n) (λ b e. sym (of_quantity-phase q n b) ∙ e) s
 
 pub sound_declaration : (site : Setup) (w : World) (said : Declaration) → IsSound site w → IsSound site (with_declaration w said)
 unfolding with_declaration batch_of row_of unit_of inside rows_in units_in HasBatch IsUntouched

@@ -32,18 +32,18 @@ use Rattle.deed_words.specs.Tests.{Test, unit_void, unit_sealed, site_full, sscc
 use Rattle.deed_words.specs.Rules.{broken, rules_of, on_rows}
 use Rattle.deed_words.specs.Effects.{effect, gtin_of, put_in, with_children, without_children, emptied}
 use Rattle.deed_words.specs.Replies.{after, unless_broken}
-use Rattle.deed_words.specs.History.{world_from, world_of, AllFollow, IsLawful, MayDraw, MayFollow, AreNew}
+use Rattle.deed_words.specs.History.{world_from, world_of, AllFollow, IsLawful, MayDraw, MayFollow, AreNewFor}
 use Rattle.deed_words.specs.Sound.{IsSound, MayStandIn, StandsRightly}
 use Rattle.deed_words.specs.Accounts.{is_case}
 use Rattle.deed_words.proofs.Sameness.{same-true, same_name_equiv}
 use Rattle.deed_words.proofs.Items.{Every-weaker, Every-both, Every-always, finds_itself}
 use Rattle.deed_words.proofs.Broken.{when_None, option_map_None, each_when, each_map, differ}
 use Rattle.std.proofs.lemmas.Bool.Decides.{nat_tests}
-use Rattle.std.proofs.lemmas.List.Elements.{recursion_from_All}
 use Rattle.deed_words.specs.declared.words.What.TheVariants.{Batches, Serials, Units}
 use Rattle.deed_words.proofs.Allowed.{NoneOf, allowed, is_there_too, at_found, has_batch, has_unit, has_begun, has_room, among_every, not_false}
 use Rattle.deed_words.proofs.SoundBatches.{sound_phase, sound_quantity, sound_declaration, sound_orders}
 use Rattle.deed_words.proofs.SoundRows.{sound_drawn}
+use Rattle.deed_words.proofs.Unknown.{unknown_new, distinct_new}
 use Rattle.deed_words.proofs.SoundMoves.{sound_move, sound_lend}
 use Rattle.deed_words.proofs.SoundUnits.{sound_unit, sound_seal, sound_unseal, sound_void}
 use Rattle.deed_words.proofs.SoundPairs.{sound_children, sound_taken}
@@ -169,8 +169,8 @@ sound_effect site w station (Orders rows) drawn p may s = sound_orders site w ro
 sound_effect site w station (Start name) drawn p may s = sound_phase site w Started name (λ e. absurd (cc)) s
 sound_effect site w station (Draw name count) drawn p may s =
     let batch = has_batch site w station (Draw name count) p.1.0 in
-    let new : AreNew site w (gtin_of w name) count drawn = may in
-    sound_drawn site w name drawn batch.0 batch.1 new.distinct (recursion_from_All (λ (serial : Text). row_of w (gtin_of w name) serial ≡ None) drawn new.unknown)
+    let new : AreNewFor site w (gtin_of w name) count drawn = may in
+    sound_drawn site w name drawn batch.0 batch.1 (distinct_new site w (gtin_of w name) count drawn new) (unknown_new site w (gtin_of w name) count drawn new)
     (subst (λ k. length w.rows + k ≤ 1000000) (sym new.counted) (has_room Serials (length w.rows) count 1000000 p.1.1.1.1.0)) s
 sound_effect site w station (Lend name count) drawn p may s = sound_lend site w station name count (λ batch at. has_begun site w station (Lend name count) batch p.1.1.0 at) s
 sound_effect site w station (MakeUnit name level) drawn p may s =

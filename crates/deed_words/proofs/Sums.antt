@@ -1,5 +1,5 @@
 -- How the rows of a GTIN stand is the sum of how those of its batches stand.
-use Rattle.std.proofs.Common.{◌≡◌, ℕ, ◌+◌, Bool, true, false, cond, List, [], ◌∷◌, length, map, sym, ◌∙◌, refl, subst, arith, Some}
+use Rattle.std.proofs.Common.{◌≡◌, ℕ, ◌+◌, Bool, true, false, cond, List, [], ◌∷◌, length, map, sym, ◌∙◌, ap, refl, subst, arith, Some}
 use Rattle.std.specs.Prelude.{filter, find, sum_by, if◌then◌else◌}
 use Rattle.std.specs.List.{AllByRecursion as Every, IsDistinct}
 use Rattle.std.proofs.lemmas.List.Sums.{sum_by-cons}
@@ -9,13 +9,17 @@ use Rattle.deed_words.specs.declared.world.Batch.{Batch}
 use Rattle.deed_words.specs.declared.world.Row.{Row}
 use Rattle.deed_words.specs.Names.{Text, same}
 use Rattle.deed_words.specs.World.{World, batch_of, rows_in}
-use Rattle.deed_words.specs.Setups.{Setup}
+use Rattle.deed_words.specs.Setups.{Setup, IsProper}
 use Rattle.deed_words.specs.Tests.{rows_of_gtin}
 use Rattle.deed_words.specs.Accounts.{how_many}
-use Rattle.deed_words.specs.Counts.{batches_of_gtin}
+use Rattle.deed_words.specs.declared.entry.Entry.{Entry}
+use Rattle.deed_words.specs.History.{world_of, IsLawful}
+use Rattle.deed_words.specs.Counts.{counts_of, counts_of_gtin, drawn_of, drawn_of_gtin, batches_of_gtin}
 use Rattle.deed_words.specs.Sound.{IsSound, HasBatch}
 use Rattle.deed_words.proofs.Sameness.{same-true, same_equiv}
 use Rattle.deed_words.proofs.Items.{Every-of_map}
+use Rattle.deed_words.proofs.Counting.{total_over, sum_alike, counts_sum_up, gtin_sums_up}
+use Rattle.deed_words.proofs.Soundness.{lawful_is_sound}
 
 -- the number, for the batch of that name
 abbrev share : ℕ → Text → Batch → ℕ
@@ -90,3 +94,31 @@ rows_sum w test gtin d (row ∷ rows) a =
 pub gtin_is_sum : (site : Setup) (w : World) (gtin : Text) (test : State → Bool) → IsSound site w → how_many test (rows_of_gtin w gtin) ≡ sum_by (λ batch. how_many test (rows_in w batch.order.batch)) (batches_of_gtin w gtin)
 unfolding how_many rows_of_gtin rows_in batches_of_gtin
 gtin_is_sum site w gtin test s = rows_sum w (λ row. test row.state) gtin s.batches_differ w.rows s.of_a_batch
+
+-- ---- what was drawn for a GTIN is the sum of what was drawn for its batches
+
+filter_all : {A : Type 0} (xs : List A) → filter (λ x. true) xs ≡ xs
+filter_all [] = refl
+filter_all {A} (x ∷ xs) = ap (λ (ys : List A). x ∷ ys) (filter_all xs)
+
+abbrev any_row : Row → Bool
+any_row row = true
+
+drawn_is : (site : Setup) (history : List Entry) (name : Text) → IsLawful site history → length (rows_in (world_of site history) name) ≡ drawn_of history name
+unfolding counts_of
+drawn_is site history name lawful = sym (total_over (rows_in (world_of site history) name)) ∙ counts_sum_up site history name lawful
+
+gtin_drawn_is : (site : Setup) (history : List Entry) (gtin : Text) → IsLawful site history → drawn_of_gtin site history gtin ≡ length (rows_of_gtin (world_of site history) gtin)
+unfolding counts_of_gtin
+gtin_drawn_is site history gtin lawful = sym (gtin_sums_up site history gtin lawful) ∙ total_over (rows_of_gtin (world_of site history) gtin)
+
+pub drawn_is_sum : (site : Setup) (history : List Entry) (gtin : Text) → IsProper site → IsLawful site history
+    → drawn_of_gtin site history gtin ≡ sum_by (λ batch. drawn_of history batch.order.batch) (batches_of_gtin (world_of site history) gtin)
+unfolding rows_of_gtin rows_in batches_of_gtin
+drawn_is_sum site history gtin proper lawful =
+    let w : World = world_of site history in
+    let s : IsSound site w = lawful_is_sound site history proper lawful in
+    gtin_drawn_is site history gtin lawful
+    ∙ ap length (sym (filter_all (rows_of_gtin w gtin)))
+    ∙ rows_sum w any_row gtin s.batches_differ w.rows s.of_a_batch
+    ∙ sum_alike (in_batch any_row w.rows) (λ batch. drawn_of history batch.order.batch) (λ batch. ap length (filter_all (rows_in w batch.order.batch)) ∙ drawn_is site history batch.order.batch lawful) (batches_of_gtin w gtin)

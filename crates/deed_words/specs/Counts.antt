@@ -1,5 +1,5 @@
 -- The six counts of a batch or a GTIN, and the serials that were drawn for it.
-use Rattle.std.specs.Prelude.{ℕ, ◌+◌, Bool, true, false, List, [], ◌∷◌, length, filter, if◌then◌else◌}
+use Rattle.std.specs.Prelude.{ℕ, ◌+◌, Bool, true, false, List, length, filter, sum_by, if◌then◌else◌}
 use Rattle.deed_words.specs.Names.{Text, same}
 use Rattle.deed_words.specs.Setups.{Setup}
 use Rattle.deed_words.specs.declared.entry.Entry.{Entry}
@@ -14,7 +14,7 @@ use Rattle.deed_words.specs.Accounts.{how_many}
 use Rattle.deed_words.specs.Moves.{is_lent, is_active}
 use Rattle.deed_words.specs.Tests.{rows_of_gtin}
 use Rattle.deed_words.specs.Effects.{gtin_of}
-use Rattle.deed_words.specs.Replies.{after}
+use Rattle.deed_words.specs.Walk.{steps_from}
 
 unfoldable pub is_unused : State → Bool
 is_unused state.Fresh = true
@@ -72,8 +72,7 @@ draws_for name deed = false
 
 -- how many serials were drawn for the batch
 unfoldable pub drawn_of : List Entry → Text → ℕ
-drawn_of [] name = 0
-drawn_of (entry ∷ entries) name = (if draws_for name entry.deed then length entry.drawn else 0) + drawn_of entries name
+drawn_of history name = sum_by (λ entry. if draws_for name entry.deed then length entry.drawn else 0) history
 
 -- the deed draws for a batch of the GTIN
 unfoldable pub draws_of : World → Text → Deed → Bool
@@ -82,9 +81,8 @@ draws_of w gtin deed = false
 
 -- how many serials the entries draw for batches of the GTIN, from a world on
 unfoldable pub drawn_of_gtin_from : Setup → World → List Entry → Text → ℕ
-drawn_of_gtin_from site w [] gtin = 0
-drawn_of_gtin_from site w (entry ∷ entries) gtin =
-    (if draws_of w gtin entry.deed then length entry.drawn else 0) + drawn_of_gtin_from site (after site w entry) entries gtin
+drawn_of_gtin_from site w entries gtin =
+    sum_by (λ step. if draws_of step.before gtin step.entry.deed then length step.entry.drawn else 0) (steps_from site w entries)
 
 -- how many serials were drawn for batches of the GTIN
 abbrev pub drawn_of_gtin : Setup → List Entry → Text → ℕ

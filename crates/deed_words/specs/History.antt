@@ -1,8 +1,7 @@
 -- The history of a site: its world, when it is lawful, and what a number means.
-use Rattle.std.specs.Prelude.{◌≡◌, ℕ, ◌+◌, ◌<◌, ◌≤◌, List, [], ◌∷◌, ◌++◌, length, filter, Option, None, Some, true, nat_eq, All}
-use Rattle.std.specs.List.{IsDistinct}
-use Rattle.gs1_keys.specs.Forms.{is_in_form}
-use Rattle.deed_words.specs.Names.{Text, same}
+use Rattle.std.specs.Prelude.{◌≡◌, ℕ, ◌+◌, ◌<◌, ◌≤◌, List, [], ◌∷◌, ◌++◌, length, map, filter, Option, None, Some, nat_eq}
+use Rattle.gs1_keys.specs.Forms.{AreNew}
+use Rattle.deed_words.specs.Names.{Text}
 use Rattle.deed_words.specs.Setups.{Setup, product_of}
 use Rattle.deed_words.specs.declared.setup.Product.{Product}
 use Rattle.deed_words.specs.declared.entry.Entry.{Entry}
@@ -10,10 +9,12 @@ use Rattle.deed_words.specs.declared.deed.Deed.{Deed}
 use Rattle.deed_words.specs.declared.deed.Deed.TheVariants.{Draw}
 use Rattle.deed_words.specs.declared.rule.Rule.{Rule}
 use Rattle.deed_words.specs.declared.reply.Reply.{Reply}
-use Rattle.deed_words.specs.World.{World, nothing_yet, row_of}
+use Rattle.deed_words.specs.World.{World, nothing_yet}
+use Rattle.deed_words.specs.Tests.{rows_of_gtin}
 use Rattle.deed_words.specs.Effects.{gtin_of}
 use Rattle.deed_words.specs.Rules.{broken}
 use Rattle.deed_words.specs.Replies.{after, reply_to}
+use Rattle.deed_words.specs.Walk.{steps_from}
 
 -- the world after the entries, from a world
 unfoldable pub world_from : Setup → World → List Entry → World
@@ -32,21 +33,20 @@ last_stamp [] = 0
 last_stamp (entry ∷ []) = entry.stamp
 last_stamp (entry ∷ more ∷ entries) = last_stamp (more ∷ entries)
 
--- a serial of the product's form
-unfoldable pub has_form : Setup → Text → Text → Type 0
-has_form site gtin serial =
-    (product : Product) × (product_of site gtin ≡ Some product) × (is_in_form product.form serial ≡ true)
+-- the serials of a GTIN, in drawn order
+unfoldable pub serials_of : World → Text → List Text
+serials_of w gtin = map (λ row. row.serial) (rows_of_gtin w gtin)
 
--- so many serials, of the form, all different, and none drawn before
-pub record AreNew (site : Setup) (w : World) (gtin : Text) (count : ℕ) (serials : List Text) : Type 0 where
+-- so many serials of a product, which are new beside those that its GTIN has
+pub record AreNewFor (site : Setup) (w : World) (gtin : Text) (count : ℕ) (serials : List Text) : Type 0 where
+  pub product : Product
+  pub made : product_of site gtin ≡ Some product
   pub counted : length serials ≡ count
-  pub formed : All (has_form site gtin) serials
-  pub distinct : IsDistinct same serials
-  pub unknown : All (λ serial. row_of w gtin serial ≡ None) serials
+  pub new : AreNew (serials_of w gtin) product.form serials
 
 -- what an entry may have drawn
 unfoldable pub MayDraw : Setup → World → Option Rule → Deed → List Text → Type 0
-MayDraw site w None (Draw name count) serials = AreNew site w (gtin_of w name) count serials
+MayDraw site w None (Draw name count) serials = AreNewFor site w (gtin_of w name) count serials
 MayDraw site w rule deed serials = serials ≡ []
 
 -- the entry may follow the history, which led to this world
@@ -67,8 +67,7 @@ IsLawful site history = AllFollow site [] nothing_yet history
 
 -- each entry with its reply
 unfoldable pub told_from : Setup → World → List Entry → List (Entry × Reply)
-told_from site w [] = []
-told_from site w (entry ∷ entries) = (entry, reply_to site w entry) ∷ told_from site (after site w entry) entries
+told_from site w entries = map (λ step. (step.entry, reply_to site step.before step.entry)) (steps_from site w entries)
 
 -- the entries of a station, with their replies
 unfoldable pub told_to : Setup → List Entry → ℕ → List (Entry × Reply)

@@ -11,6 +11,7 @@ pub mod Tests
 pub mod Rules
 pub mod Effects
 pub mod Replies
+pub mod Walk
 pub mod History
 pub mod Counts
 pub mod Sound
@@ -19,3 +20,4 @@ pub mod Kept
 pub mod Accounted
 pub mod Numbers
 pub mod Proper
+pub mod ProperWorlds

@@ -1,12 +1,12 @@
 -- Order rows: which are new, and which differ from what was first accepted.
-use Rattle.std.specs.Prelude.{◌≡◌, Some, Bool, not, List, [], ◌∷◌, ◌++◌, map, find, if◌then◌else◌}
+use Rattle.std.specs.Prelude.{Bool, not, List, [], ◌∷◌, ◌++◌, map, find, if◌then◌else◌}
 use Rattle.std.specs.List.{list_any}
 use Rattle.deed_words.specs.Names.{Text, same, same_order}
 use Rattle.deed_words.specs.declared.deed.OrderRow.{OrderRow}
 use Rattle.deed_words.specs.declared.words.Phase.TheVariants.{Planned}
 use Rattle.deed_words.specs.Chain.{holds_of}
 use Rattle.deed_words.specs.declared.world.Batch.{Batch}
-use Rattle.deed_words.specs.World.{World, batch_of}
+use Rattle.deed_words.specs.World.{World}
 
 abbrev pub planned : OrderRow → Batch
 planned row = record { order = row; quantity = row.quantity; phase = Planned }
@@ -28,7 +28,3 @@ orders_in w = map (λ batch. batch.order) w.batches
 -- the first order of the row's batch is another
 unfoldable pub conflicts : List OrderRow → OrderRow → Bool
 conflicts orders row = holds_of (λ order. not (same_order order row)) (find (λ order. same order.batch row.batch) orders)
-
--- the row is one that was accepted before
-unfoldable pub WasAccepted : World → OrderRow → Type 0
-WasAccepted w row = (batch : Batch) × (batch_of w row.batch ≡ Some batch) × (batch.order ≡ row)

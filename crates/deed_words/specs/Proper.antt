@@ -1,9 +1,10 @@
 -- What is proper: the ranges of fields, apart from those that their types keep.
-use Rattle.std.specs.Prelude.{◌≡◌, ◌≤◌, true, Bool, ◌&&◌, List, length, nat_le}
+use Rattle.std.specs.Prelude.{◌≡◌, ◌≤◌, true, not, Bool, ◌&&◌, List, length, nat_le}
 use Rattle.std.specs.List.{list_all}
 use Rattle.gs1_keys.specs.Keys.{is_between}
 use Rattle.gs1_element.specs.Dates.{is_expiry}
 use Rattle.gs1_element.specs.declared.code.Code.{Code}
+use Rattle.deed_words.specs.Chain.{is_empty}
 use Rattle.deed_words.specs.declared.deed.OrderRow.{OrderRow}
 use Rattle.deed_words.specs.declared.deed.Deed.{Deed}
 use Rattle.deed_words.specs.declared.deed.Deed.TheVariants.{Order, Orders, Commission, Spoil, Giveback, Sample, Reject, Reinstate, Destroy, Decommission, Pack, Unpack, Amend}
@@ -11,9 +12,9 @@ use Rattle.deed_words.specs.declared.entry.Ask.{Ask}
 use Rattle.deed_words.specs.declared.entry.Said.{Said}
 use Rattle.deed_words.specs.declared.entry.Entry.{Entry}
 
--- an order with a date, 1 to 1,000,000 items, 1 to 1,000 in a case and up to 1,000 cases on a pallet
+-- an order of a batch that has a name, with a date, 1 to 1,000,000 items, 1 to 1,000 in a case and up to 1,000 cases on a pallet
 unfoldable pub is_order : OrderRow → Bool
-is_order row = is_expiry row.expiry && is_between 1 1000000 row.quantity && is_between 1 1000 row.case_size && nat_le row.pallet_size 1000
+is_order row = not (is_empty row.batch) && is_expiry row.expiry && is_between 1 1000000 row.quantity && is_between 1 1000 row.case_size && nat_le row.pallet_size 1000
 
 unfoldable pub is_dated : Code → Bool
 is_dated code = is_expiry code.expiry

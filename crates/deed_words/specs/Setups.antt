@@ -5,6 +5,7 @@ use Rattle.std.specs.Option.{option_map_or}
 use Rattle.gs1_keys.specs.Keys.{issue, is_digit, is_between}
 use Rattle.gs1_keys.specs.Forms.{is_form, half_size}
 use Rattle.gs1_element.specs.Dates.{two_digits}
+use Rattle.epc_urn.specs.Urns.{IsPrefixLength}
 use Rattle.deed_words.specs.declared.setup.Product.{Product}
 use Rattle.deed_words.specs.declared.setup.Station.{Station}
 use Rattle.deed_words.specs.declared.words.Role.{Role}
@@ -74,6 +75,7 @@ names_of stations = map (λ station. station.name) stations
 -- what every setup keeps
 pub record IsProper (site : Setup) : Type 0 where
   pub gln : begins_with site.prefix site.gln ≡ true
+  pub prefix : IsPrefixLength (length site.prefix)
   pub extension : site.extension ≤ 9
   pub reference : site.reference < reference_bound site
   pub offset : is_offset site.offset ≡ true

@@ -28,12 +28,13 @@ pub struct OrderRow {
 }
 
 impl OrderRow {
-    /// Whether its date and its numbers are in their ranges.
-    #[tactic(auto, unfolding(crate::specs::Proper::is_order))]
+    /// Whether its date and its numbers are in their ranges. That the batch has a name its type keeps.
+    #[tactic(auto, unfolding(crate::specs::Proper::is_order, crate::specs::Chain::is_empty))]
     pub fn is_proper(&self) -> bool
         ensures { result ≡ is_order self.now }
     {
-        is_date(&self.expiry)
+        !self.batch.bytes().is_empty()
+            && is_date(&self.expiry)
             && is_quantity(self.quantity)
             && (1..=1_000).contains(&self.case_size)
             && self.pallet_size <= 1_000

@@ -16,11 +16,11 @@ pub use deed::{Deed, OrderRow};
 pub use entry::{Ask, Entry, FaultKind, Move, Note, Said};
 pub use laws::{
     closed_batches_stay, closes_where_accounted, codes_made_once, counts_sum_to_drawn,
-    histories_grow_lawfully, issued_once, orders_again_change_nothing, replies_list_what_is_issued,
-    soundness_is_kept, things_stand_two_deep,
+    histories_grow_lawfully, issued_once, numbers_mean_one_thing, orders_again_change_nothing,
+    replies_list_what_is_issued, soundness_is_kept, things_stand_two_deep, worlds_are_proper,
 };
 pub use lists::{Codes, Epcs, Ids, Moves, Notes, Products, Rows, Stations};
-pub use names::{same_epc, same_gtin, same_sscc, same_text};
+pub use names::{is_one_of, same_epc, same_gtin, same_sscc, same_text};
 pub use reply::{Answer, Reply};
 pub use rule::{Finding, Rule};
 pub use setup::{Product, Setup, Station};

@@ -2,6 +2,7 @@
 ghost use Rattle.std.specs.Prelude.{◌≡◌, ◌≤◌, ◌<◌, ◌+◌, ◌-◌, ◌^◌, ◌↔◌, true, length, IfSome, IsSome};
 ghost use Rattle.std.specs.List.{list_all, list_any, IsDistinct};
 ghost use Rattle.gs1_element.specs.Dates.{two_digits};
+ghost use Rattle.epc_urn.specs.Urns.{IsPrefixLength};
 ghost use Rattle.deed_words.specs.Names.{same};
 ghost use Rattle.deed_words.specs.Setups.{role_of, product_of, is_product, is_offset, begins_with, gtins_of, names_of, IsProper};
 
@@ -69,7 +70,8 @@ fn is_of_prefix(gln: &Gln, prefix: &Prefix) -> bool
 
 /// Serial references of the prefix stay below this.
 fn reference_end(prefix: &Prefix) -> u64
-    ensures { result ≡ 10 ^ (16 - length prefix.now) }
+    ensures is { result ≡ 10 ^ (16 - length prefix.now) }
+    ensures length { IsPrefixLength (length prefix.now) }
 {
     10u64.pow(16 - prefix.digits().len() as u32)
 }

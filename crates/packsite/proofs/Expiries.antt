@@ -1,11 +1,13 @@
 -- The six digits of a date are an expiry, and an order that was read is in its ranges.
-use Rattle.std.proofs.Common.{◌≡◌, ℕ, ◌+◌, ◌<◌, ◌≤◌, ◌%◌, Bool, true, false, List, [], ◌∷◌, None, arith, refl, ap, ◌∙◌, subst}
+use Rattle.std.proofs.Common.{◌≡◌, ℕ, ◌+◌, ◌<◌, ◌≤◌, ◌%◌, Bool, true, false, List, [], ◌∷◌, length, None, Ok, arith, refl, ap, ◌∙◌, subst}
 use Rattle.std.specs.Prelude.{◌==◌, ◌||◌, ◌*◌, ◌-◌, if◌then◌else◌, nat_le, pos, slice_index}
 use Rattle.std.specs.Char.{is_ascii_digit}
 use Rattle.std.proofs.lemmas.Bool.{and_parts, le-leb}
 use Rattle.std.proofs.lemmas.Bool.Decides.{nat_tests}
 use Rattle.jiff.specs.Words.{is_leap_year, days_in_month}
-use Rattle.gs1_keys.specs.Keys.{is_digit, first_other}
+use Rattle.gs1_keys.specs.Keys.{is_digit, first_other, text_of}
+use Rattle.gs1_keys.proofs.Known.{text_length, text_same}
+use Rattle.deed_words.specs.Chain.{is_empty}
 use Rattle.gs1_element.specs.Dates.{days_in, date_fault, is_expiry}
 use Rattle.deed_words.specs.Proper.{is_order}
 use Rattle.deed_words.specs.declared.deed.OrderRow.{OrderRow}
@@ -57,8 +59,18 @@ six_are_expiry text e =
     let alone = digits_alone (slice_index text 2) (slice_index text 3) (slice_index text 5) (slice_index text 6) (slice_index text 8) (slice_index text 9) year.0 year.1 month.0 month.1 day.0 day.1 in
     rw (alone, low, high, within) refl
 
+-- a text that was read isn't empty
+pub text_is_some : (text word : List ℕ) → text_of text ≡ Ok word → 1 ≤ length word
+text_is_some text word e = (text_length word (subst (λ (t : List ℕ). text_of t ≡ Ok word) (text_same text word e) e)).0
+
+not_empty : (word : List ℕ) → 1 ≤ length word → is_empty word ≡ false
+unfolding is_empty
+not_empty [] some = absurd (omega arith)
+not_empty (character ∷ word) some = refl
+
 -- an order of these parts is in its ranges
-pub order_is_proper : (row : OrderRow) → is_expiry row.expiry ≡ true → 1 ≤ row.quantity → row.quantity ≤ 1000000 → 1 ≤ row.case_size → row.case_size ≤ 1000 → row.pallet_size ≤ 1000 → is_order row ≡ true
+pub order_is_proper : (row : OrderRow) → 1 ≤ length row.batch → is_expiry row.expiry ≡ true → 1 ≤ row.quantity → row.quantity ≤ 1000000 → 1 ≤ row.case_size → row.case_size ≤ 1000 → row.pallet_size ≤ 1000 → is_order row ≡ true
 unfolding is_order
-order_is_proper row dated some few least most pallets =
-    rw (dated, le-leb 1 row.quantity some, le-leb row.quantity 1000000 few, le-leb 1 row.case_size least, le-leb row.case_size 1000 most, le-leb row.pallet_size 1000 pallets) refl
+order_is_proper row named dated some few least most pallets =
+    let name : is_empty row.batch ≡ false = not_empty row.batch named in
+    rw (name, dated, le-leb 1 row.quantity some, le-leb row.quantity 1000000 few, le-leb 1 row.case_size least, le-leb row.case_size 1000 most, le-leb row.pallet_size 1000 pallets) refl

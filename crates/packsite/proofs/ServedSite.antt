@@ -42,6 +42,7 @@ pub is_proper : IsProper served_site
 unfolding IsDistinct same begins_with is_product reference_bound is_offset
 is_proper = record {
   gln = refl;
+  prefix = (omega arith, omega arith);
   extension = omega arith;
   reference = omega arith;
   offset = refl;

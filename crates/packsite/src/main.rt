@@ -14,8 +14,8 @@ mod run;
 mod top;
 
 use outside::{RandomWords, Reading, Writing, take_standard_streams};
-use std::process::ExitCode;
 use std::fs::File;
+use std::process::ExitCode;
 use std::rt::{Env, Files};
 use std::{env, fs, io};
 use top::site_top;

@@ -61,9 +61,10 @@ fn gtin_of(value: &Value, name: &str) -> Option<Gtin>
     Gtin::read(text_of(value, name)?.as_bytes()).ok()
 }
 
-#[tactic(auto, unfolding(crate::specs::Requests::word_at))]
+#[tactic(auto, using(crate::proofs::Expiries::text_is_some), unfolding(crate::specs::Requests::word_at))]
 fn word_of(value: &Value, name: &str) -> Option<Text20>
-    ensures { result ≡ word_at name.now (view value.now) }
+    ensures is { result ≡ word_at name.now (view value.now) }
+    ensures some { IfSome result (λ word. 1 ≤ length word) }
 {
     Text20::read(text_of(value, name)?.as_bytes()).ok()
 }

@@ -15,14 +15,14 @@ use Rattle.deed_words.specs.declared.entry.Entry.{Entry}
 use Rattle.deed_words.specs.Rules.{broken}
 use Rattle.deed_words.specs.Effects.{effect, gtin_of, with_orders, with_drawn}
 use Rattle.deed_words.specs.Replies.{after, unless_broken, reply_to, replied, answer_to, orders_answer}
-use Rattle.deed_words.specs.History.{MayDraw, AreNew}
+use Rattle.deed_words.specs.History.{MayDraw, serials_of, AreNewFor}
 use Rattle.serial_pool.specs.Drawing.{IsDraw}
 use Rattle.serial_pool.specs.Held.{PlanView, IsPlanFor, drawn_for}
 use Rattle.std.specs.Prelude.{Result, Ok, Err, IfOk, IfErr}
 use Rattle.site_core.specs.declared.planned.PlanFault.{PlanFault}
 use Rattle.site_core.specs.declared.planned.PlanFault.TheVariants.{Memory, WordsFault, WordsSpent}
 use Rattle.site_core.specs.DrawEnds.{DrawEnds}
-use Rattle.site_core.specs.Draws.{Draws, Spends, Stops, serials_of, form_for, drawn_in, drawn_by_plan, MayCommit}
+use Rattle.site_core.specs.Draws.{Draws, Spends, Stops, form_for, drawn_in, drawn_by_plan, MayCommit}
 use Rattle.site_core.specs.Decisions.{IsOf, IsDecided, Decides}
 use Rattle.site_core.specs.declared.decision.Decision.{Decision}
 use Rattle.site_core.proofs.Serials.{drawn_more}
@@ -64,13 +64,13 @@ order_decided site w station row told decision e says reply drawn draw =
     }
 
 pub draw_decided : (site : Setup) (w : World) (station : ℕ) (name : Text) (count : ℕ) (taken : List ℕ) (plan : PlanView) (decision : Decision) → None ≡ broken site w station (Draw name count)
-    → IsDraw (serials_of w (gtin_of w name)) (form_for site (gtin_of w name)) count taken plan.serials → AreNew site w (gtin_of w name) count plan.serials → plan.gtin ≡ gtin_of w name → IsPlanFor (drawn_in w) plan
+    → IsDraw (serials_of w (gtin_of w name)) (form_for site (gtin_of w name)) count taken plan.serials → AreNewFor site w (gtin_of w name) count plan.serials → plan.gtin ≡ gtin_of w name → IsPlanFor (drawn_in w) plan
     → decision.reply ≡ Accepted (Listed plan.serials) → decision.drawn ≡ plan.serials → decision.draw ≡ Some plan → IsDecided site w station (Draw name count) taken decision
 unfolding Draws MayDraw reply_to replied answer_to after unless_broken effect with_drawn
 draw_decided site w station name count taken plan decision e draws new gtin fits reply drawn draw =
     record {
       draws = subst (λ (r : Option Rule). Draws site w r (Draw name count) taken decision.drawn) e (subst (λ (s : List Text). IsDraw (serials_of w (gtin_of w name)) (form_for site (gtin_of w name)) count taken s) (sym drawn) draws);
-      may = subst (λ (r : Option Rule). MayDraw site w r (Draw name count) decision.drawn) e (subst (λ (s : List Text). AreNew site w (gtin_of w name) count s) (sym drawn) new);
+      may = subst (λ (r : Option Rule). MayDraw site w r (Draw name count) decision.drawn) e (subst (λ (s : List Text). AreNewFor site w (gtin_of w name) count s) (sym drawn) new);
       reply_is = λ entry of.
           reply ∙ ap (λ (s : List Text). Accepted (Listed s)) (sym drawn ∙ sym of.drawn_is) ∙ sym (ap (λ (d : Deed). Accepted (answer_to site w d entry.drawn)) of.deed_is)
           ∙ sym (ap (replied site w entry) (same_rule site w station (Draw name count) decision entry None of (sym e)));
@@ -99,7 +99,7 @@ failed_decided site w station name count taken Memory e ends = tt
 
 -- a draw that was planned
 pub drew_decided : (site : Setup) (w : World) (station : ℕ) (name : Text) (count : ℕ) (taken : List ℕ) (plan : PlanView) (result : Result Decision PlanFault) → None ≡ broken site w station (Draw name count)
-    → DrawEnds site w name count taken (Ok plan) → AreNew site w (gtin_of w name) count plan.serials → plan.gtin ≡ gtin_of w name → IsPlanFor (drawn_in w) plan
+    → DrawEnds site w name count taken (Ok plan) → AreNewFor site w (gtin_of w name) count plan.serials → plan.gtin ≡ gtin_of w name → IsPlanFor (drawn_in w) plan
     → IfOk result (λ d. d.reply ≡ Accepted (Listed plan.serials)) → IfOk result (λ d. d.drawn ≡ plan.serials) → IfOk result (λ d. d.draw ≡ Some plan) → IfErr result (λ e. e ≡ Memory) → Decides site w station (Draw name count) taken result
 drew_decided site w station name count taken plan (Ok decision) e draws new gtin fits reply drawn draw fault = draw_decided site w station name count taken plan decision e draws new gtin fits reply drawn draw
 drew_decided site w station name count taken plan (Err other) e draws new gtin fits reply drawn draw fault = subst (λ (f : PlanFault). Decides site w station (Draw name count) taken (Err f)) (sym fault) tt

@@ -1,5 +1,5 @@
 -- A draw that breaks no rule.
-use Rattle.std.proofs.Common.{◌≡◌, ◌≤◌, ◌<◌, ◌+◌, ℕ, suc, Bool, true, false, cond, ◌||◌, List, [], ◌∷◌, length, Option, Some, None, refl, ap, sym, ◌∙◌, subst, true≢false, arith, nat_eq, nat_lt}
+use Rattle.std.proofs.Common.{◌≡◌, ◌≤◌, ◌<◌, ◌+◌, ℕ, Bool, true, false, ◌||◌, List, [], length, Option, Some, None, refl, ap, sym, ◌∙◌, subst, true≢false, arith, nat_eq, nat_lt}
 use Rattle.std.specs.Prelude.{filter, option_and_then}
 use Rattle.std.specs.Option.{option_map_or}
 use Rattle.std.proofs.lemmas.Bool.Decides.{nat_tests}
@@ -22,12 +22,12 @@ use Rattle.deed_words.specs.Deeds.{batch_for, batch_named}
 use Rattle.deed_words.specs.Tests.{rows_of_gtin, thin, asked, pool_thin, out_of_range, count_range, site_full}
 use Rattle.deed_words.specs.Rules.{broken, rules_of}
 use Rattle.deed_words.specs.Effects.{gtin_of}
-use Rattle.deed_words.proofs.Sameness.{same_equiv}
 use Rattle.deed_words.proofs.Broken.{when_None}
 use Rattle.deed_words.proofs.Allowed.{NoneOf, allowed, has_batch, has_room}
 use Rattle.gs1_keys.specs.Forms.{half_size, is_form}
 use Rattle.gs1_keys.specs.declared.form.Alphabet.TheVariants.{Digits}
-use Rattle.site_core.specs.Draws.{serials_of, form_for, drawn_in}
+use Rattle.deed_words.specs.History.{serials_of}
+use Rattle.site_core.specs.Draws.{form_for, drawn_in}
 use Rattle.site_core.proofs.Serials.{had_is}
 
 -- the product, and what is drawn of it and of all
@@ -69,17 +69,9 @@ asked_few site w station name count e =
     grind (arith, nat_tests, range.1)
 
 -- the serials of the GTIN are as many as its rows
-counted : (gtin : Text) (rows : List Row) → length (filter (λ (row : Row). same gtin row.gtin) rows) ≡ length (filter (λ (row : Row). same row.gtin gtin) rows)
-counted gtin [] = refl
-counted gtin (row ∷ rows) =
-    rw (same_equiv.symm gtin row.gtin) (elim (same row.gtin gtin) as (λ b. length (cond b (row ∷ filter (λ (r : Row). same gtin r.gtin) rows) (filter (λ (r : Row). same gtin r.gtin) rows)) ≡ length (cond b (row ∷ filter (λ (r : Row). same r.gtin gtin) rows) (filter (λ (r : Row). same r.gtin gtin) rows))) [
-      | true ↦ ap suc (counted gtin rows)
-      | false ↦ counted gtin rows
-    ])
-
 pub drawn_count_is : (w : World) (pairs : List DrawnSerial) (gtin : Text) → pairs ≡ drawn_in w → drawn_count gtin pairs ≡ length (rows_of_gtin w gtin)
 unfolding serials_of rows_of_gtin
-drawn_count_is w pairs gtin e = ap length (had_is w pairs gtin e) ∙ length-map (filter (λ (row : Row). same gtin row.gtin) w.rows) (λ (row : Row). row.serial) ∙ counted gtin w.rows
+drawn_count_is w pairs gtin e = ap length (had_is w pairs gtin e) ∙ length-map (filter (λ (row : Row). same row.gtin gtin) w.rows) (λ (row : Row). row.serial)
 
 few_rows : (gtin : Text) (rows : List Row) → length (filter (λ (row : Row). same row.gtin gtin) rows) ≤ length rows
 few_rows gtin rows =

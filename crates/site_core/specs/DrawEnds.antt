@@ -8,7 +8,8 @@ use Rattle.deed_words.specs.World.{World}
 use Rattle.deed_words.specs.Effects.{gtin_of}
 use Rattle.site_core.specs.declared.planned.PlanFault.{PlanFault}
 use Rattle.site_core.specs.declared.planned.PlanFault.TheVariants.{Memory, WordsFault, WordsSpent}
-use Rattle.site_core.specs.Draws.{serials_of, form_for}
+use Rattle.deed_words.specs.History.{serials_of}
+use Rattle.site_core.specs.Draws.{form_for}
 
 -- what the draw answers after it took these words; want of memory may come at any time
 abbrev pub DrawEnds : Setup → World → Text → ℕ → List ℕ → Result PlanView PlanFault → Type 0

@@ -1,23 +1,20 @@
 -- What the site draws from random words.
-use Rattle.std.specs.Prelude.{◌≡◌, ℕ, List, [], map, filter, Option, Some, None}
+use Rattle.std.specs.Prelude.{◌≡◌, ℕ, List, [], map, Option, Some, None}
 use Rattle.std.specs.Option.{option_map_or}
 use Rattle.serial_pool.specs.Drawing.{IsDraw, IsSpent, IsUnfinished}
 use Rattle.serial_pool.specs.declared.drawn.DrawnSerial.{DrawnSerial}
 use Rattle.serial_pool.specs.Held.{PlanView, IsPlanFor, drawn_for}
 use Rattle.gs1_keys.specs.declared.form.SerialForm.{SerialForm}
 use Rattle.gs1_keys.specs.declared.form.Alphabet.TheVariants.{Digits}
-use Rattle.deed_words.specs.Names.{Text, same}
+use Rattle.deed_words.specs.Names.{Text}
 use Rattle.deed_words.specs.Setups.{Setup, product_of}
 use Rattle.deed_words.specs.World.{World}
 use Rattle.deed_words.specs.Effects.{gtin_of}
+use Rattle.deed_words.specs.History.{serials_of}
 use Rattle.deed_words.specs.declared.world.Row.{Row}
 use Rattle.deed_words.specs.declared.deed.Deed.{Deed}
 use Rattle.deed_words.specs.declared.deed.Deed.TheVariants.{Draw}
 use Rattle.deed_words.specs.declared.rule.Rule.{Rule}
-
--- the serials of the GTIN, in drawn order
-unfoldable pub serials_of : World → Text → List Text
-serials_of w gtin = map (λ row. row.serial) (filter (λ row. same gtin row.gtin) w.rows)
 
 -- what a serial of the GTIN looks like; a GTIN that is no product has none
 unfoldable pub form_for : Setup → Text → SerialForm

@@ -7,7 +7,7 @@ ghost use Rattle.deed_words.specs.Setups.{half_pool};
 ghost use Rattle.deed_words.specs.Rules.{broken};
 ghost use Rattle.deed_words.specs.Tests.{count_range};
 ghost use Rattle.deed_words.specs.Effects.{gtin_of};
-ghost use Rattle.deed_words.specs.History.{AreNew};
+ghost use Rattle.deed_words.specs.History.{AreNewFor};
 ghost use Rattle.deed_words.specs.declared.deed.Deed.TheVariants.{Draw};
 ghost use Rattle.site_core.specs.Draws.{drawn_in};
 ghost use Rattle.site_core.specs.DrawEnds.{DrawEnds, is_words_fault};
@@ -108,7 +108,7 @@ pub(crate) fn plan_serials<W: Words>(
     requires pool { pool.old.drawn ≡ drawn_in lists.now.world }
     ensures draw { Takes (W.words_left words.old) (W.words_left words.new) (λ taken. DrawEnds setup.now lists.now.world name.now count taken result) }
     ensures cause { HasCauseIf (is_words_fault result) (W.word_faults words.old) (W.word_faults words.new) }
-    ensures new { IfOk result (λ plan. AreNew setup.now lists.now.world (gtin_of lists.now.world name.now) count plan.serials) }
+    ensures new { IfOk result (λ plan. AreNewFor setup.now lists.now.world (gtin_of lists.now.world name.now) count plan.serials) }
     ensures gtin { IfOk result (λ plan. plan.gtin ≡ gtin_of lists.now.world name.now) }
     ensures made_for { IfOk result (λ plan. IsPlanFor pool.new.drawn plan) }
     ensures room { IfOk result (λ plan. HasRoomFor pool.new plan) }

@@ -2,8 +2,9 @@
 ghost use Rattle.std.specs.Prelude.{◌≡◌, ◌<◌, ◌≤◌, ◌+◌, ◌++◌, ◌∷◌, [], length, true, All, IfOk, OnOk, nat_eq, count_by};
 ghost use Rattle.outside.specs.Causes.{HasCauseIf};
 ghost use Rattle.outside.specs.Devices.{Takes};
-ghost use Rattle.deed_words.specs.History.{own, last_stamp, IsLawful};
+ghost use Rattle.deed_words.specs.History.{own, last_stamp, world_of, IsLawful};
 ghost use Rattle.deed_words.specs.Proper.{IsProperAsk, IsProperEntry};
+ghost use Rattle.deed_words.specs.ProperWorlds.{IsProperWorld};
 ghost use Rattle.site_core.specs.Draws.{drawn_by_plan, MayCommit};
 ghost use Rattle.site_core.specs.DrawEnds.{is_words_fault};
 ghost use Rattle.site_core.specs.Plans.{is_built, Plans, IsNext, HasRoomFor};
@@ -11,7 +12,7 @@ ghost use Rattle.site_core.specs.Plans.{is_built, Plans, IsNext, HasRoomFor};
 use crate::decision::{Decision, decide};
 use crate::lists::Lists;
 use crate::planned::{PlanFault, Planned};
-use deed_words::{Ask, Entry, Setup, StationId};
+use deed_words::{Ask, Entry, Setup, StationId, worlds_are_proper};
 use gs1_keys::Memory;
 use outside::Words;
 use serial_pool::{DrawPlan, Pool};
@@ -73,7 +74,9 @@ impl Site {
     pub fn tell_kept(&self)
         ensures lawful { IsLawful self.now.setup self.now.history }
         ensures proper { All IsProperEntry self.now.history }
+        ensures world { IsProperWorld self.now.setup (world_of self.now.setup self.now.history) }
     {
+        worlds_are_proper();
         let _room = self.history.len();
     }
 

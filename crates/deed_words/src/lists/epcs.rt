@@ -1,6 +1,8 @@
 //! Lists of names.
-ghost use Rattle.std.specs.Prelude.{◌≡◌, ◌<◌, [], ◌∷◌, ◌++◌, length, slice_index_or, is_ok, if◌then◌else◌, IfOk};
+ghost use Rattle.std.specs.Prelude.{◌≡◌, ◌<◌, [], ◌∷◌, ◌++◌, not, filter, length, slice_index_or, is_ok, if◌then◌else◌, IfOk};
+ghost use Rattle.deed_words.specs.Names.{is_among};
 
+use crate::names::is_one_of;
 use epc_urn::Epc;
 use gs1_keys::Memory;
 use std::alloc::Global;
@@ -19,6 +21,13 @@ impl Model for Epcs {
     ghost Value = { List Epc };
 
     ghost view = { λ s. s.items.items };
+}
+
+/// Leaves names out of a list.
+fn keep_others(items: &mut Vec<Epc>, names: &[Epc])
+    ensures { items.new.items ≡ filter (λ name. not (is_among names.now name)) items.old.items }
+{
+    items.retain(|name| !is_one_of(name, names));
 }
 
 impl Epcs {
@@ -61,6 +70,20 @@ impl Epcs {
         ensures { result.now ≡ self.now }
     {
         self.items.as_slice()
+    }
+
+    /// Puts these names last, or changes nothing.
+    pub fn extend(&mut self, names: &[Epc]) -> Result<(), Memory>
+        ensures { self.new ≡ (if is_ok result then self.old ++ names.now else self.old) }
+    {
+        self.items.extend_from_slice(names).map_err(|_| Memory)
+    }
+
+    /// Leaves these names out.
+    pub fn leave_out(&mut self, names: &[Epc])
+        ensures { self.new ≡ filter (λ name. not (is_among names.now name)) self.old }
+    {
+        keep_others(&mut self.items, names);
     }
 
     /// An equal list.

@@ -4,8 +4,8 @@ use Rattle.serial_pool.specs.Drawing.{IsDraw, IsSpent, IsUnfinished}
 use Rattle.gs1_keys.specs.declared.form.SerialForm.{SerialForm}
 use Rattle.deed_words.specs.Names.{Text}
 use Rattle.deed_words.specs.Effects.{gtin_of}
-use Rattle.deed_words.specs.History.{AreNew}
-use Rattle.site_core.specs.Draws.{serials_of, form_for}
+use Rattle.deed_words.specs.History.{serials_of, AreNewFor}
+use Rattle.site_core.specs.Draws.{form_for}
 use Rattle.site_core.proofs.Serials.{had_is, may_draw}
 use Rattle.site_core.proofs.Drawable.{drawable, drawable_batch, gtin_is, form_is, few_in_all, same_product, no_thin, product_form}
 use Rattle.site_core.proofs.drawing.plan_serials.Goals as goal
@@ -54,7 +54,7 @@ returns-in-Ok-clause-new g c =
     let w = c.args.lists.now.world in
     let gtin = gtin_is w c.args.name.now c.in-Some.batch (sym c.batch.ensures ∙ c.in-Some.is) in
     let had = had_is w c.args.pool.now.drawn c.in-Some.batch.order.gtin c.requires.pool in
-    subst (λ (t : Text). AreNew c.args.setup.now w t c.args.count c.in-Ok.plan.serials) gtin
+    subst (λ (t : Text). AreNewFor c.args.setup.now w t c.args.count c.in-Ok.plan.serials) gtin
     (may_draw c.args.setup.now w c.in-Some.batch.order.gtin c.in-Some-product.product c.args.count c.in-Ok.plan.serials (sym c.product.ensures.is ∙ c.in-Some-product.is) c.in-Ok.ensures.draw.2.1.enough (rw had at c.in-Ok.ensures.new))
 
 pub returns-in-Ok-clause-gtin : goal.returns-in-Ok-clause-gtin

@@ -14,8 +14,9 @@ invariant_of-result c =
     let named = subst (λ (xs : List Station). (1 ≤ length xs) × (length xs ≤ 64) × IsDistinct same (names_of xs)) c.as_slice-else-not-are_products.ensures (c.if-not-are_stations.ensures.0 refl) in
     record {
       gln = sym c.if-not-is_of_prefix.ensures;
+      prefix = c.reference_end.ensures.length;
       extension = c.if-extension-gt9.false;
-      reference = omega (arith, c.if-reference-reference_end.false, c.reference_end.ensures);
+      reference = omega (arith, c.if-reference-reference_end.false, c.reference_end.ensures.is);
       offset = sym c.if-not-is_time_offset.ensures;
       product_count = (made.0, made.1);
       products = made.2;
@@ -28,7 +29,7 @@ pub returns-then-reference-reference_end-clause-exactly : goal.returns-then-refe
 unfolding reference_bound
 returns-then-reference-reference_end-clause-exactly c = (
   λ never. absurd (true≢false (sym never)),
-  λ proper. let below = proper.reference in absurd (omega (arith, below, c.if-reference-reference_end.true, c.reference_end.ensures)),
+  λ proper. let below = proper.reference in absurd (omega (arith, below, c.if-reference-reference_end.true, c.reference_end.ensures.is)),
 )
 
 pub returns-clause-exactly : goal.returns-clause-exactly
