@@ -1,6 +1,7 @@
 pub mod Causes
 pub mod Devices
 pub mod Disks
+pub mod Doors
 pub mod Failing
 pub mod MemoryDisks
 pub mod Readers

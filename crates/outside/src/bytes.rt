@@ -1,5 +1,5 @@
 //! Lists of bytes.
-ghost use Rattle.std.specs.Prelude.{◌≡◌, ◌<◌, [], ◌∷◌, ◌++◌, length, slice_index_or, is_ok, if◌then◌else◌};
+ghost use Rattle.std.specs.Prelude.{◌≡◌, ◌<◌, [], ◌∷◌, ◌++◌, length, slice_index_or, is_ok, OnOk, OnErr, if◌then◌else◌};
 
 use gs1_keys::Memory;
 use std::alloc::Global;
@@ -34,6 +34,17 @@ impl Bytes {
         ensures { self.new ≡ (if is_ok result then self.old ++ item ∷ [] else self.old) }
     {
         match self.items.push(item) {
+            Ok(()) => Ok(()),
+            Err(_) => Err(Memory),
+        }
+    }
+
+    /// Puts these bytes last, or changes nothing.
+    pub fn extend(&mut self, more: &[u8]) -> Result<(), Memory>
+        ensures ok { OnOk result (self.new ≡ self.old ++ more.now) }
+        ensures err { OnErr result (self.new ≡ self.old) }
+    {
+        match self.items.extend_from_slice(more) {
             Ok(()) => Ok(()),
             Err(_) => Err(Memory),
         }

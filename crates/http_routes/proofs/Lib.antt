@@ -1,0 +1,6 @@
+mod Numerals
+mod Longs
+mod Paths
+mod Places
+mod Rows
+mod Served

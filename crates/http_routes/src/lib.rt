@@ -1,0 +1,16 @@
+//! The paths that the site serves: routed by `matchit`, their segments percent-decoded and read as names, keys and
+//! numbers.
+#![tactic(auto)]
+
+mod digits;
+mod page;
+mod routes;
+mod segment;
+mod target;
+
+pub use digits::number;
+pub use routes::Routes;
+pub use target::Target;
+
+#[cfg(test)]
+mod tests;
