@@ -1,5 +1,6 @@
--- No reply has a float.
+-- No reply has a float, and no answer that isn't kept.
 use Rattle.std.proofs.Common.{◌≡◌, ℕ, List, [], ◌∷◌, false, refl}
+use Rattle.std.specs.Prelude.{codes}
 use Rattle.serde_json.specs.Written.{has_float, items_have_float}
 use Rattle.deed_words.specs.Setups.{Setup}
 use Rattle.deed_words.specs.declared.rule.Finding.{Finding}
@@ -12,6 +13,11 @@ use Rattle.deed_words.specs.declared.reply.Reply.{Reply}
 use Rattle.deed_words.specs.declared.reply.Reply.TheVariants as reply
 use Rattle.deed_json.specs.Objects.{texts_of, numbers_of}
 use Rattle.deed_json.specs.Replies.{finding_data, rule_data, answer_data, reply_data}
+use Rattle.deed_json.specs.Unkept.{fault, told_of, unkept_data}
+use Rattle.deed_json.specs.declared.deed_fault.DeedFault.{DeedFault}
+use Rattle.deed_json.specs.declared.deed_fault.DeedFault.TheVariants as deed
+use Rattle.deed_json.specs.declared.unkept.Unkept.{Unkept}
+use Rattle.deed_json.specs.declared.unkept.Unkept.TheVariants as unkept
 
 texts_have_no_float : (texts : List (List ℕ)) → items_have_float (texts_of texts) ≡ false
 texts_have_no_float [] = refl
@@ -74,3 +80,30 @@ pub reply_has_no_float : (site : Setup) (told : Reply) → has_float (reply_data
 unfolding reply_data
 reply_has_no_float site (reply.Accepted told) = answer_has_no_float site told
 reply_has_no_float site (reply.Refused broken) = rule_has_no_float site broken
+
+bad_deed_has_no_float : (broken : DeedFault) → has_float (fault (codes "BadDeed") (told_of broken)) ≡ false
+unfolding told_of
+bad_deed_has_no_float deed.NotObject = refl
+bad_deed_has_no_float (deed.NoMember m) = refl
+bad_deed_has_no_float (deed.BadMember m) = refl
+bad_deed_has_no_float (deed.BadCode index inner) = refl
+bad_deed_has_no_float (deed.BadUrn index inner) = refl
+bad_deed_has_no_float (deed.TooMany count) = refl
+bad_deed_has_no_float deed.Memory = refl
+bad_deed_has_no_float (deed.BadRow line column) = refl
+
+pub unkept_has_no_float : (told : Unkept) → has_float (unkept_data told) ≡ false
+unfolding unkept_data
+unkept_has_no_float unkept.BadLine = refl
+unkept_has_no_float unkept.LineTooLong = refl
+unkept_has_no_float unkept.NoStation = refl
+unkept_has_no_float (unkept.BadDeed broken) = bad_deed_has_no_float broken
+unkept_has_no_float (unkept.NumberGap last) = refl
+unkept_has_no_float unkept.NumberReused = refl
+unkept_has_no_float unkept.DiskFault = refl
+unkept_has_no_float unkept.ClockFault = refl
+unkept_has_no_float (unkept.ClockRange ms) = refl
+unkept_has_no_float unkept.WordsFault = refl
+unkept_has_no_float (unkept.WordsSpent found) = refl
+unkept_has_no_float (unkept.JournalFull end asked) = refl
+unkept_has_no_float unkept.Memory = refl

@@ -1,5 +1,6 @@
 pub mod Ascii
 mod Arrays
+mod Entries
 mod Floats
+mod Json
 pub mod Urns
-mod Spelled

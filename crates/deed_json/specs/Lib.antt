@@ -1,2 +1,6 @@
+pub mod DeedFaults
+pub mod Deeds
+pub mod Asked
 pub mod Objects
 pub mod Replies
+pub mod Unkept

@@ -1,14 +1,27 @@
-//! Replies as JSON.
+//! Deeds and replies as JSON.
 #![tactic(auto)]
 
-mod laws;
+mod ask;
+#[cfg(test)]
+mod ask_tests;
+mod deed;
+mod deed_fault;
+#[cfg(test)]
+mod deed_tests;
+mod deed_word;
+mod list;
+mod member;
 mod object;
 mod reply;
 mod rule;
 #[cfg(test)]
 mod tests;
+mod unkept;
 mod value;
 mod words;
 
-pub use laws::{acceptances_are_spelled, refusals_are_spelled};
+pub use ask::{AskFault, read_ask, read_body};
+pub use deed::read_deed;
+pub use deed_fault::{DeedFault, Member};
 pub use reply::{reply_text, reply_value};
+pub use unkept::{Unkept, unkept_text, unkept_value};

@@ -12,7 +12,7 @@ use std::process::Abort;
 use std::test::Fail;
 
 /// A site with the stations P1, L1, L2 and Q1, whose company prefix has 7 digits.
-fn example_site(alloc: Global) -> Result<Option<Setup>, Fail> {
+pub(crate) fn example_site(alloc: Global) -> Result<Option<Setup>, Fail> {
     let mut products = Products::new(alloc);
     products.push(Product {
         gtin: Gtin::read(b"00614141123452")?,

@@ -1,5 +1,6 @@
 pub mod ExampleSite
 pub mod Examples
+pub mod Each
 mod ExamplePool
 mod ExampleHistory
 mod ExampleFull

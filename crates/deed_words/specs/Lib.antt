@@ -2,6 +2,7 @@ pub mod Names
 pub mod Chain
 pub mod World
 pub mod Setups
+pub mod Stations
 pub mod Deeds
 pub mod Moves
 pub mod Roles
@@ -11,6 +12,7 @@ pub mod Tests
 pub mod Rules
 pub mod Effects
 pub mod Replies
+pub mod Happenings
 pub mod Walk
 pub mod History
 pub mod Counts

@@ -9,6 +9,7 @@ mod names;
 mod reply;
 mod rule;
 mod setup;
+mod stations;
 mod words;
 mod world;
 
@@ -20,10 +21,13 @@ pub use laws::{
     replies_list_what_is_issued, soundness_is_kept, things_stand_two_deep, worlds_are_proper,
 };
 pub use lists::{Codes, Epcs, Ids, Moves, Notes, Products, Rows, Stations};
-pub use names::{is_one_of, same_epc, same_gtin, same_sscc, same_text};
+pub use names::{same_epc, same_gtin, same_sscc, same_text};
 pub use reply::{Answer, Reply};
 pub use rule::{Finding, Rule};
-pub use setup::{Product, Setup, Station};
+pub use setup::{
+    Product, Setup, Station, has_gtin, has_name, is_of_prefix, is_time_offset, reference_end,
+};
+pub use stations::station_of;
 pub use words::{
     BatchId, Condition, ItemId, Level, Mark, Phase, Role, State, StationId, UnitId, What,
 };

@@ -1,6 +1,6 @@
 //! Comparing texts, keys and names.
 ghost use Rattle.std.specs.Prelude.{◌≡◌};
-ghost use Rattle.deed_words.specs.Names.{same, same_name, is_among};
+ghost use Rattle.deed_words.specs.Names.{same, same_name};
 
 use epc_urn::Epc;
 use gs1_keys::{Gtin, Sscc, Text20};
@@ -41,12 +41,4 @@ pub fn same_epc(one: &Epc, other: &Epc) -> bool
         (Epc::Unit(sscc), Epc::Unit(sscc_too)) => same_sscc(sscc, sscc_too),
         _ => false,
     }
-}
-
-/// Whether a name is one of these.
-#[tactic(auto, unfolding(crate::specs::Names::is_among))]
-pub fn is_one_of(name: &Epc, names: &[Epc]) -> bool
-    ensures { result ≡ is_among names.now name.now }
-{
-    names.iter().any(|other| same_epc(name, other))
 }

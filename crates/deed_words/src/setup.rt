@@ -62,14 +62,14 @@ impl Model for Setup {
 
 /// Whether the location number begins with the prefix.
 #[tactic(auto, unfolding(crate::specs::Setups::begins_with, crate::specs::Names::same))]
-fn is_of_prefix(gln: &Gln, prefix: &Prefix) -> bool
+pub fn is_of_prefix(gln: &Gln, prefix: &Prefix) -> bool
     ensures { result ≡ begins_with prefix.now gln.now }
 {
     gln.digits().starts_with(prefix.digits())
 }
 
 /// Serial references of the prefix stay below this.
-fn reference_end(prefix: &Prefix) -> u64
+pub fn reference_end(prefix: &Prefix) -> u64
     ensures is { result ≡ 10 ^ (16 - length prefix.now) }
     ensures length { IsPrefixLength (length prefix.now) }
 {
@@ -84,9 +84,9 @@ fn two_digits_at(text: &[u8; 6], at: usize) -> u32
     u32::from(text[at].saturating_sub(b'0')) * 10 + u32::from(text[at + 1].saturating_sub(b'0'))
 }
 
-/// Whether a text is an offset of the time.
+/// Whether a text is an offset of the time: a sign, two digits, a colon and two digits, from -14:00 to +14:00.
 #[tactic(auto, unfolding(crate::specs::Setups::is_offset))]
-fn is_time_offset(text: &[u8; 6]) -> bool
+pub fn is_time_offset(text: &[u8; 6]) -> bool
     ensures { result ≡ is_offset text.now }
 {
     (text[0] == b'+' || text[0] == b'-')
@@ -115,7 +115,7 @@ fn all_in_range(products: &[Product]) -> bool
 }
 
 /// Whether a product has the GTIN.
-fn has_gtin(products: &[Product], gtin: Gtin) -> bool
+pub fn has_gtin(products: &[Product], gtin: Gtin) -> bool
     ensures { result ≡ list_any (λ product. same gtin product.gtin) products.now }
 {
     products
@@ -124,7 +124,7 @@ fn has_gtin(products: &[Product], gtin: Gtin) -> bool
 }
 
 /// Whether a station has the name.
-fn has_name(stations: &[Station], name: Text20) -> bool
+pub fn has_name(stations: &[Station], name: Text20) -> bool
     ensures { result ≡ list_any (λ station. same name station.name) stations.now }
 {
     stations

@@ -152,11 +152,16 @@ fn names_are_compared(rt: HostRuntime) -> Result<(), Fail> {
 
 #[test]
 fn names_are_listed(rt: HostRuntime) -> Result<(), Fail> {
+    let unit = Epc::Unit(Sscc::read(b"106141410000000019".as_slice())?);
+    let item = Epc::Item(gtin()?, text(b"6789".as_slice())?);
     let mut epcs = Epcs::new(rt.alloc());
-    epcs.push(Epc::Unit(Sscc::read(b"106141410000000019".as_slice())?))?;
-    epcs.push(Epc::Item(gtin()?, text(b"6789".as_slice())?))?;
+    epcs.push(unit)?;
+    epcs.push(item)?;
     assert_eq!(rt; epcs.len(), 2);
     assert!(rt; matches!(epcs.get(1), Epc::Item(_, _)));
+    epcs.extend(&[unit, item])?;
+    let names = Epcs::from_vec(epcs.into_vec());
+    assert_eq!(rt; names.len(), 4);
     Ok(())
 }
 

@@ -1,4 +1,3 @@
-mod Numerals
 mod Longs
 mod Paths
 mod Places

@@ -1,5 +1,4 @@
 pub mod Chain
-pub mod Numbers
 pub mod Pages
 pub mod Paths
 pub mod Segments

@@ -4,7 +4,7 @@ use Rattle.std.specs.Result.{result_ok}
 use Rattle.http_routes.specs.Chain.{◌>>=◌}
 use Rattle.percent_encoding.specs.Percent.{percent_decode}
 use Rattle.gs1_keys.specs.Keys.{text_of, gtin_of, sscc_of}
-use Rattle.http_routes.specs.Numbers.{number_in}
+use Rattle.numerals.specs.Numbers.{number_in}
 
 -- the name, GTIN or SSCC that is left when each escape is read
 abbrev pub name_in : List ℕ → Option (List ℕ)

@@ -2,13 +2,11 @@
 //! numbers.
 #![tactic(auto)]
 
-mod digits;
 mod page;
 mod routes;
 mod segment;
 mod target;
 
-pub use digits::number;
 pub use routes::Routes;
 pub use target::Target;
 

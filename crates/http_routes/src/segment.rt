@@ -4,8 +4,8 @@ ghost use Rattle.percent_encoding.specs.Percent.{percent_decode as decoded_text}
 ghost use Rattle.http_routes.specs.Paths.{pieces, segment_at};
 ghost use Rattle.http_routes.specs.Segments.{name_in, gtin_in, sscc_in, number_at, ranged_at};
 
-use crate::digits::number;
 use gs1_keys::{Gtin, Sscc, Text20};
+use numerals::number;
 use percent_encoding::percent_decode;
 use std::marker::Model;
 

@@ -2,7 +2,7 @@
 //! words a call moves. Each device counts its faults, up to the last u64, where the count stands still.
 ghost use Rattle.std.specs.Prelude.{◌≡◌, ◌<◌, ◌≤◌, ◌^◌, ℕ, List, Option, None, length, IfOk};
 ghost use Rattle.outside.specs.Causes.{HasCause};
-ghost use Rattle.outside.specs.Devices.{TakesPiece, PutsPiece, TakesWord};
+ghost use Rattle.outside.specs.Devices.{Ask, TakesPiece, AsksOnce, PutsPiece, TakesWord};
 
 /// A device failed, and its count of faults rose.
 #[derive(Clone, Copy, Debug, PartialEq, Eq)]
@@ -16,6 +16,9 @@ pub trait Source {
     /// How often a `take` has failed.
     ghost read_faults: { Self → ℕ };
 
+    /// The calls of `take` so far, where the source tells them: how long each piece was, and the bytes that came.
+    ghost asks: { Self → Option (List Ask) } = { λ _. None };
+
     /// What a `take` leaves alone.
     ghost beside_takes: { Self → Option (List ℕ) × ℕ } = { λ _. (None, 0) };
 
@@ -25,6 +28,7 @@ pub trait Source {
         requires { 0 < length piece.old }
         ensures bound { IfOk result (λ n. n ≤ length piece.new) }
         ensures bytes { TakesPiece (left self.old) (left self.new) result piece.new }
+        ensures asked { AsksOnce (asks self.old) (asks self.new) result piece.new }
         ensures cause { HasCause (read_faults self.old) (read_faults self.new) result }
         ensures beside { beside_takes self.new ≡ beside_takes self.old };
 }

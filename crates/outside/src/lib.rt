@@ -4,6 +4,7 @@
 
 mod adapters;
 mod bytes;
+mod call;
 mod clock;
 mod devices;
 mod disk;

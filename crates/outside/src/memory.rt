@@ -1,20 +1,23 @@
 //! Devices in memory, which tell their content and fail at the calls that they are told.
 ghost use Rattle.std.specs.Prelude.{◌≡◌, ◌<◌, ◌≤◌, ◌↔◌, ◌⊎◌, [], Some, length, min, drop, vec_len, IfOk, IsErr};
 ghost use Rattle.outside.specs.Causes.{HasCause};
-ghost use Rattle.outside.specs.Devices.{TakesPiece, PutsPiece, TakesWord};
+ghost use Rattle.outside.specs.Devices.{TakesPiece, AsksOnce, PutsPiece, TakesWord};
 ghost use Rattle.outside.specs.Disks.{Tells};
 ghost use Rattle.outside.specs.Failing.{told, IsListed, IsCalled};
+ghost use Rattle.outside.specs.MemoryCalls.{asks_of};
 
+use crate::call::{Call, count_call};
 use crate::failures::Failures;
 use crate::{Failed, Sink, Source, Words};
 use std::alloc::Global;
 
-/// Bytes in memory as a source.
+/// Bytes in memory as a source. It also tells the calls of `take`, of which only the last one takes room.
 #[derive(Drop)]
 pub struct MemorySource {
     bytes: Vec<u8>,
     at: usize,
     failures: Failures,
+    last: Option<Call>,
     ghost within: { at ≤ vec_len bytes },
 }
 
@@ -22,6 +25,7 @@ impl MemorySource {
     /// Gives these bytes, and fails at the takes of these numbers, from 1.
     pub fn new(bytes: Vec<u8>, failing: Vec<u64>) -> Self
         ensures left { ⟦<MemorySource as Source>⟧.left result ≡ Some bytes.items }
+        ensures asks { ⟦<MemorySource as Source>⟧.asks result ≡ Some [] }
         ensures faults { ⟦<MemorySource as Source>⟧.read_faults result ≡ 0 }
         ensures failing { result.failures ≡ told failing.items }
     {
@@ -29,6 +33,7 @@ impl MemorySource {
             bytes,
             at: 0,
             failures: Failures::new(failing),
+            last: None,
         }
     }
 }
@@ -38,23 +43,28 @@ impl Source for MemorySource {
 
     ghost read_faults = { λ s. s.failures.failed };
 
+    ghost asks = { λ s. Some (asks_of s.bytes.items s.last) };
+
     /// It fails exactly where the number of the call is listed, and else moves as many bytes as the piece and
     /// what is left allow.
     fn take(&mut self, piece: &mut [u8]) -> Result<usize, Failed>
         requires { 0 < length piece.old }
         ensures bound { IfOk result (λ n. n ≤ length piece.new) }
         ensures bytes { TakesPiece (⟦<MemorySource as Source>⟧.left self.old) (⟦<MemorySource as Source>⟧.left self.new) result piece.new }
+        ensures asked { AsksOnce (⟦<MemorySource as Source>⟧.asks self.old) (⟦<MemorySource as Source>⟧.asks self.new) result piece.new }
         ensures cause { HasCause (⟦<MemorySource as Source>⟧.read_faults self.old) (⟦<MemorySource as Source>⟧.read_faults self.new) result }
         ensures whole { Tells (⟦<MemorySource as Source>⟧.left self.old) (λ bytes. IfOk result (λ n. n ≡ min (length piece.new) (length bytes))) }
         ensures called { IsCalled self.old.failures self.new.failures }
         ensures failing { IsErr result ↔ IsListed self.old.failures }
     {
         if self.failures.next_fails() {
+            count_call(&mut self.last, piece.len(), self.at, 0);
             return Err(Failed);
         }
         let rest = &self.bytes[self.at..];
         let count = piece.len().min(rest.len());
         piece[..count].copy_from_slice(&rest[..count]);
+        count_call(&mut self.last, piece.len(), self.at, count);
         self.at += count;
         Ok(count)
     }

@@ -1,7 +1,7 @@
 //! A link in memory.
 ghost use Rattle.std.specs.Prelude.{◌≡◌, ◌<◌, ◌≤◌, ◌↔◌, [], Some, refl, length, min, IfOk, IsErr};
 ghost use Rattle.outside.specs.Causes.{HasCause};
-ghost use Rattle.outside.specs.Devices.{TakesPiece, PutsPiece};
+ghost use Rattle.outside.specs.Devices.{TakesPiece, AsksOnce, PutsPiece};
 ghost use Rattle.outside.specs.Disks.{Tells};
 ghost use Rattle.outside.specs.Failing.{told, IsListed, IsCalled};
 
@@ -24,6 +24,7 @@ impl MemoryLink {
         failing_puts: Vec<u64>,
     ) -> Self
         ensures left { ⟦<MemoryLink as Source>⟧.left result ≡ Some bytes.items }
+        ensures asks { ⟦<MemoryLink as Source>⟧.asks result ≡ Some [] }
         ensures held { ⟦<MemoryLink as Sink>⟧.held result ≡ Some [] }
         ensures read_faults { ⟦<MemoryLink as Source>⟧.read_faults result ≡ 0 }
         ensures write_faults { ⟦<MemoryLink as Sink>⟧.write_faults result ≡ 0 }
@@ -49,6 +50,8 @@ impl Source for MemoryLink {
 
     ghost read_faults = { λ l. ⟦<MemorySource as Source>⟧.read_faults l.source };
 
+    ghost asks = { λ l. ⟦<MemorySource as Source>⟧.asks l.source };
+
     ghost beside_takes = { λ l. (⟦<MemorySink as Sink>⟧.held l.sink, ⟦<MemorySink as Sink>⟧.write_faults l.sink) };
 
     /// As of a `MemorySource`.
@@ -56,6 +59,7 @@ impl Source for MemoryLink {
         requires { 0 < length piece.old }
         ensures bound { IfOk result (λ n. n ≤ length piece.new) }
         ensures bytes { TakesPiece (⟦<MemoryLink as Source>⟧.left self.old) (⟦<MemoryLink as Source>⟧.left self.new) result piece.new }
+        ensures asked { AsksOnce (⟦<MemoryLink as Source>⟧.asks self.old) (⟦<MemoryLink as Source>⟧.asks self.new) result piece.new }
         ensures cause { HasCause (⟦<MemoryLink as Source>⟧.read_faults self.old) (⟦<MemoryLink as Source>⟧.read_faults self.new) result }
         ensures beside { self.new.sink ≡ self.old.sink }
         ensures whole { Tells (⟦<MemoryLink as Source>⟧.left self.old) (λ bytes. IfOk result (λ n. n ≡ min (length piece.new) (length bytes))) }

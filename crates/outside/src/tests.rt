@@ -1,7 +1,6 @@
 use crate::{
     Bytes, Clock, Disk, Failed, FileDisk, FileSource, MemoryClock, MemoryDisk, MemoryLink,
-    MemorySink, MemorySource, MemoryWords, RandomWords, Reading, Sink, Source, SystemClock, Words,
-    Writing, take_standard_streams,
+    RandomWords, Reading, Sink, Source, SystemClock, Words, Writing, take_standard_streams,
 };
 use std::alloc::Global;
 use std::io::Read;
@@ -22,31 +21,6 @@ fn bytes_are_a_list(rt: HostRuntime) -> Result<(), Fail> {
 }
 
 #[test]
-fn a_source_fails_in_mid_stream(rt: HostRuntime) -> Result<(), Fail> {
-    let alloc = rt.alloc();
-    let mut source = MemorySource::new([1, 2, 3].to_vec(alloc)?, [2].to_vec(alloc)?);
-    let mut piece = [0; 2];
-    assert_eq!(rt; source.take(&mut piece)?, 2);
-    assert_eq!(rt; piece.as_slice(), [1, 2].as_slice());
-    assert_eq!(rt; source.take(&mut piece), Err(Failed));
-    assert_eq!(rt; source.take(&mut piece)?, 1);
-    assert_eq!(rt; piece[0], 3);
-    assert_eq!(rt; source.take(&mut piece)?, 0);
-    Ok(())
-}
-
-#[test]
-fn a_sink_fails_in_mid_stream(rt: HostRuntime) -> Result<(), Fail> {
-    let alloc = rt.alloc();
-    let mut sink = MemorySink::new(alloc, [2].to_vec(alloc)?);
-    assert_eq!(rt; sink.put(&[1, 2])?, 2);
-    assert_eq!(rt; sink.put(&[3]), Err(Failed));
-    assert_eq!(rt; sink.put(&[4])?, 1);
-    assert_eq!(rt; sink.bytes(), [1, 2, 4].as_slice());
-    Ok(())
-}
-
-#[test]
 fn a_link_fails_on_each_side_by_its_own_list(rt: HostRuntime) -> Result<(), Fail> {
     let alloc = rt.alloc();
     let takes = [1].to_vec(alloc)?;
@@ -59,17 +33,6 @@ fn a_link_fails_on_each_side_by_its_own_list(rt: HostRuntime) -> Result<(), Fail
     assert_eq!(rt; piece[0], 5);
     assert_eq!(rt; link.put(&[10]), Err(Failed));
     assert_eq!(rt; link.put_bytes(), [8, 9].as_slice());
-    Ok(())
-}
-
-#[test]
-fn words_fail_where_told_and_where_used_up(rt: HostRuntime) -> Result<(), Fail> {
-    let alloc = rt.alloc();
-    let mut words = MemoryWords::new([70, 80].to_vec(alloc)?, [2].to_vec(alloc)?);
-    assert_eq!(rt; words.next_word()?, 70);
-    assert_eq!(rt; words.next_word(), Err(Failed));
-    assert_eq!(rt; words.next_word()?, 80);
-    assert_eq!(rt; words.next_word(), Err(Failed));
     Ok(())
 }
 

@@ -1,5 +1,5 @@
 -- Answering a request.
-use Rattle.std.proofs.Common.{◌≡◌, ◌≤◌, ◌<◌, ◌+◌, ℕ, true, false, List, [], ◌∷◌, ◌++◌, length, Option, Some, None, refl, ap, sym, ◌∙◌, subst, true≢false, arith}
+use Rattle.std.proofs.Common.{◌≡◌, ◌≤◌, ◌<◌, ◌+◌, ℕ, true, false, List, [], ◌∷◌, ◌++◌, length, Option, Some, None, Ok, refl, ap, sym, ◌∙◌, subst, true≢false, arith}
 use Rattle.std.specs.Prelude.{nat_eq}
 use Rattle.std.specs.Cmp.{nat_eq_equiv}
 use Rattle.deed_words.specs.Setups.{Setup}
@@ -15,14 +15,14 @@ use Rattle.std.proofs.lemmas.Bool.Decides.{nat_tests}
 use Rattle.site_core.specs.Plans.{is_built, entry_of, IsNext, Makes}
 use Rattle.site_core.specs.declared.planned.Planned.{Planned}
 use Rattle.packsite.specs.Limits.{line_limit}
-use Rattle.packsite.specs.Requests.{ask_of}
+use Rattle.deed_json.specs.Asked.{asked_of}
 use Rattle.packsite.specs.Rules.{rule_of}
 use Rattle.packsite.specs.Standing.{Stands}
 use Rattle.deed_words.specs.Names.{Text}
 use Rattle.deed_words.specs.declared.deed.Deed.{Deed}
 use Rattle.site_core.specs.Draws.{Draws, Spends, Stops}
 use Rattle.packsite.specs.declared.answer.Answer.{Answer}
-use Rattle.packsite.specs.declared.answer.Answer.TheVariants.{NotBuilt, Replied, WordsFault, WordsSpent, Memory}
+use Rattle.packsite.specs.declared.answer.Answer.TheVariants.{NotBuilt, TooLong, Unasked, Replied, WordsFault, WordsSpent, Memory}
 use Rattle.packsite.specs.Keeping.{Keeps}
 use Rattle.packsite.specs.Answers.{IsServed, IsUnserved, is_answered, Answers, LacksWords, SpendsWords}
 
@@ -31,28 +31,23 @@ pub rule_of-reply : (site : Setup) (w : World) (entry : Entry) → rule_of (repl
 unfolding reply_to replied
 rule_of-reply site w entry = elim (broken site w entry.station entry.deed) as (λ (rule : Option Rule). rule_of (replied site w entry rule) ≡ rule) [ None ↦ refl | Some rule ↦ refl ]
 
--- why a line is answered by no site
-same_ask : (site : Setup) (history : List Entry) (line : List ℕ) (ask other : Ask) → ask_of site line ≡ Some ask → IsServed site history line other → IsServed site history line ask
-same_ask site history line ask other read served =
-    let same : other ≡ ask = let e : Some other ≡ Some ask = sym served.read ∙ read in cc in
-    subst (IsServed site history line) same served
+-- why a line that asks isn't answered by the site
+pub unserved_unbuilt : (site : Setup) (history : List Entry) (line : List ℕ) (ask : Ask) → length line ≤ line_limit → asked_of site line ≡ Ok ask → is_built ask.deed ≡ false → IsUnserved site history line
+unserved_unbuilt site history line ask short read other =
+    record { ask = ask; short = short; read = read; other = λ served. true≢false (sym served.built ∙ other) }
 
-pub unserved_long : (site : Setup) (history : List Entry) (line : List ℕ) → line_limit < length line → IsUnserved site history line
-unserved_long site history line long = λ ask served. let short = served.short in absurd (omega (arith, short, long))
+pub unserved_number : (site : Setup) (history : List Entry) (line : List ℕ) (ask : Ask) → length line ≤ line_limit → asked_of site line ≡ Ok ask → nat_eq ask.number (length (own ask.station history) + 1) ≡ false → IsUnserved site history line
+unserved_number site history line ask short read other =
+    record {
+      ask = ask;
+      short = short;
+      read = read;
+      other = λ served. true≢false (sym (ap (λ (n : ℕ). nat_eq n (length (own ask.station history) + 1)) served.next ∙ nat_eq_equiv.refl (length (own ask.station history) + 1)) ∙ other);
+    }
 
-pub unserved_unread : (site : Setup) (history : List Entry) (line : List ℕ) → ask_of site line ≡ None → IsUnserved site history line
-unserved_unread site history line none = λ ask served. let e : None ≡ Some ask = sym none ∙ served.read in absurd (cc)
-
-pub unserved_unbuilt : (site : Setup) (history : List Entry) (line : List ℕ) (ask : Ask) → ask_of site line ≡ Some ask → is_built ask.deed ≡ false → IsUnserved site history line
-unserved_unbuilt site history line ask read other = λ found served. true≢false (sym (same_ask site history line ask found read served).built ∙ other)
-
-pub unserved_number : (site : Setup) (history : List Entry) (line : List ℕ) (ask : Ask) → ask_of site line ≡ Some ask → nat_eq ask.number (length (own ask.station history) + 1) ≡ false → IsUnserved site history line
-unserved_number site history line ask read other = λ found served.
-    let next = (same_ask site history line ask found read served).next in
-    true≢false (sym (ap (λ (n : ℕ). nat_eq n (length (own ask.station history) + 1)) next ∙ nat_eq_equiv.refl (length (own ask.station history) + 1)) ∙ other)
-
-pub unserved_rule : (site : Setup) (history : List Entry) (line : List ℕ) (ask : Ask) → ask_of site line ≡ Some ask → is_answered (broken site (world_of site history) ask.station ask.deed) ≡ false → IsUnserved site history line
-unserved_rule site history line ask read other = λ found served. true≢false (sym (same_ask site history line ask found read served).answered ∙ other)
+pub unserved_rule : (site : Setup) (history : List Entry) (line : List ℕ) (ask : Ask) → length line ≤ line_limit → asked_of site line ≡ Ok ask → is_answered (broken site (world_of site history) ask.station ask.deed) ≡ false → IsUnserved site history line
+unserved_rule site history line ask short read other =
+    record { ask = ask; short = short; read = read; other = λ served. true≢false (sym served.answered ∙ other) }
 
 -- the stamp of the last entry
 last_stamp-push : (history : List Entry) (entry : Entry) → last_stamp (history ++ entry ∷ []) ≡ entry.stamp
@@ -72,16 +67,16 @@ planned_rule site history ask drawn planned is next =
     ap rule_of next.reply ∙ rule_of-reply site (world_of site history) planned.entry ∙ ap (λ (e : Entry). broken site (world_of site history) e.station e.deed) is
 
 -- a request that is served, but for its rule
-served_where : (site : Setup) (history : List Entry) (line : List ℕ) (ask : Ask) (rule : Option Rule) → length line ≤ line_limit → ask_of site line ≡ Some ask → is_built ask.deed ≡ true
+served_where : (site : Setup) (history : List Entry) (line : List ℕ) (ask : Ask) (rule : Option Rule) → length line ≤ line_limit → asked_of site line ≡ Ok ask → is_built ask.deed ≡ true
     → nat_eq ask.number (length (own ask.station history) + 1) ≡ true → broken site (world_of site history) ask.station ask.deed ≡ rule → is_answered rule ≡ true → IsServed site history line ask
 served_where site history line ask rule short read built number e told =
     record { short = short; read = read; built = built; next = grind (arith, nat_tests, number); answered = ap is_answered e ∙ told }
 
 -- what comes of a plan is what the line is answered
-pub kept : (site : Setup) (history new : List Entry) (line : List ℕ) (ask : Ask) (taken : List ℕ) (planned : Planned) (answer : Answer) → length line ≤ line_limit → ask_of site line ≡ Some ask → is_built ask.deed ≡ true
+pub kept : (site : Setup) (history new : List Entry) (line : List ℕ) (ask : Ask) (taken : List ℕ) (planned : Planned) (answer : Answer) → length line ≤ line_limit → asked_of site line ≡ Ok ask → is_built ask.deed ≡ true
     → nat_eq ask.number (length (own ask.station history) + 1) ≡ true → Makes site history 0 ask 0 taken planned → Keeps history planned answer new → (answer ≡ NotBuilt → taken ≡ []) → Answers site history line answer taken new
 kept site history new line ask taken planned NotBuilt short read built number m k none = (
-  unserved_rule site history line ask read (ap is_answered (sym (planned_rule site history ask m.drawn planned m.entry m.next)) ∙ k.0),
+  unserved_rule site history line ask short read (ap is_answered (sym (planned_rule site history ask m.drawn planned m.entry m.next)) ∙ k.0),
   record { none = none refl; history = k.1 },
 )
 kept site history new line ask taken planned (Replied reply) short read built number m k none =
@@ -93,6 +88,8 @@ kept site history new line ask taken planned (Replied reply) short read built nu
       reply_is = k.1 ∙ m.next.reply ∙ ap (reply_to site (world_of site history)) m.entry;
       history = k.2 ∙ ap (λ (e : Entry). history ++ e ∷ []) m.entry;
     }
+kept site history new line ask taken planned TooLong short read built number m k none = absurd k
+kept site history new line ask taken planned (Unasked fault) short read built number m k none = absurd k
 kept site history new line ask taken planned WordsFault short read built number m k none = absurd k
 kept site history new line ask taken planned (WordsSpent found) short read built number m k none = absurd k
 kept site history new line ask taken planned Memory short read built number m k none = k
@@ -118,7 +115,7 @@ unfolding Spends
 spends_breaks_none site w None deed taken found s = refl
 spends_breaks_none site w (Some rule) deed taken found s = absurd s
 
-pub lacks_words : (site : Setup) (history new : List Entry) (line : List ℕ) (ask : Ask) (taken : List ℕ) → length line ≤ line_limit → ask_of site line ≡ Some ask → is_built ask.deed ≡ true
+pub lacks_words : (site : Setup) (history new : List Entry) (line : List ℕ) (ask : Ask) (taken : List ℕ) → length line ≤ line_limit → asked_of site line ≡ Ok ask → is_built ask.deed ≡ true
     → nat_eq ask.number (length (own ask.station history) + 1) ≡ true → Stops site (world_of site history) (broken site (world_of site history) ask.station ask.deed) ask.deed taken → new ≡ history → LacksWords site history line taken new
 lacks_words site history new line ask taken short read built number stops same =
     record {
@@ -128,7 +125,7 @@ lacks_words site history new line ask taken short read built number stops same =
       history = same;
     }
 
-pub spends_words : (site : Setup) (history new : List Entry) (line : List ℕ) (ask : Ask) (taken : List ℕ) (found : ℕ) → length line ≤ line_limit → ask_of site line ≡ Some ask → is_built ask.deed ≡ true
+pub spends_words : (site : Setup) (history new : List Entry) (line : List ℕ) (ask : Ask) (taken : List ℕ) (found : ℕ) → length line ≤ line_limit → asked_of site line ≡ Ok ask → is_built ask.deed ≡ true
     → nat_eq ask.number (length (own ask.station history) + 1) ≡ true → Spends site (world_of site history) (broken site (world_of site history) ask.station ask.deed) ask.deed taken found → new ≡ history → SpendsWords site history line found taken new
 spends_words site history new line ask taken found short read built number spends same =
     record {

@@ -1,7 +1,6 @@
 mod Answering
 mod Cutting
 mod Going
-mod Json
 mod Limit
 mod Promised
 mod Putting
@@ -9,4 +8,3 @@ mod Served
 mod ServedSite
 mod Statuses
 mod Words
-pub mod Expiries

@@ -1,5 +1,5 @@
 -- What a line is answered, and what it does to the history.
-use Rattle.std.specs.Prelude.{◌≡◌, ◌≤◌, ◌+◌, ℕ, Bool, true, false, List, [], ◌∷◌, ◌++◌, Option, Some, None, length, codes}
+use Rattle.std.specs.Prelude.{◌≡◌, ◌≤◌, ◌<◌, ◌+◌, ℕ, Bool, true, false, List, [], ◌∷◌, ◌++◌, Option, Some, None, Ok, Err, length, codes}
 use Rattle.serde_json.specs.Written.{compact_text}
 use Rattle.deed_words.specs.declared.entry.Ask.{Ask}
 use Rattle.deed_words.specs.declared.entry.Entry.{Entry}
@@ -12,13 +12,15 @@ use Rattle.deed_words.specs.Replies.{reply_to}
 use Rattle.deed_words.specs.History.{own, world_of}
 use Rattle.deed_json.specs.Replies.{reply_data, NamesStationsOf}
 use Rattle.deed_words.specs.Names.{Text}
-use Rattle.serde_json.specs.Data.{Data, boolean, number, unsigned, string, object, no_members, member}
 use Rattle.site_core.specs.Draws.{Draws, Spends, Stops}
 use Rattle.site_core.specs.Plans.{is_built, entry_of}
 use Rattle.packsite.specs.declared.answer.Answer.{Answer}
-use Rattle.packsite.specs.declared.answer.Answer.TheVariants.{NotBuilt, Replied, WordsFault, WordsSpent, Memory}
+use Rattle.packsite.specs.declared.answer.Answer.TheVariants.{NotBuilt, TooLong, Unasked, Replied, WordsFault, WordsSpent, Memory}
 use Rattle.packsite.specs.Limits.{line_limit}
-use Rattle.packsite.specs.Requests.{ask_of}
+use Rattle.deed_json.specs.Asked.{asked_of}
+use Rattle.deed_json.specs.Unkept.{unkept_data, unkept_of}
+use Rattle.deed_json.specs.declared.ask.AskFault.{AskFault}
+use Rattle.deed_json.specs.declared.unkept.Unkept.TheVariants as unkept
 
 -- no rule is broken, or the one that is answered already: that no batch has the name
 abbrev pub is_answered : Option Rule → Bool
@@ -30,14 +32,22 @@ is_answered (Some rule) = false
 -- station's next one, and the first rule that it breaks, if there is one, is answered.
 pub record IsServed (site : Setup) (history : List Entry) (line : List ℕ) (ask : Ask) : Type 0 where
   pub short : length line ≤ line_limit
-  pub read : ask_of site line ≡ Some ask
+  pub read : asked_of site line ≡ Ok ask
   pub built : is_built ask.deed ≡ true
   pub next : ask.number ≡ length (own ask.station history) + 1
   pub answered : is_answered (broken site (world_of site history) ask.station ask.deed) ≡ true
 
--- the line is answered by no site
-abbrev pub IsUnserved : Setup → List Entry → List ℕ → Type 0
-IsUnserved site history line = (ask : Ask) → IsServed site history line ask → ⊥
+-- the line asks for this, and isn't answered by the site
+pub record IsUnserved (site : Setup) (history : List Entry) (line : List ℕ) : Type 0 where
+  pub ask : Ask
+  pub short : length line ≤ line_limit
+  pub read : asked_of site line ≡ Ok ask
+  pub other : IsServed site history line ask → ⊥
+
+-- the line asks for nothing, for this reason
+pub record IsUnasked (site : Setup) (line : List ℕ) (fault : AskFault) : Type 0 where
+  pub short : length line ≤ line_limit
+  pub read : asked_of site line ≡ Err fault
 
 -- nothing was taken, and the history stays
 pub record Stays (old : List Entry) (taken : List ℕ) (new : List Entry) : Type 0 where
@@ -71,27 +81,28 @@ pub record SpendsWords (site : Setup) (old : List Entry) (line : List ℕ) (foun
 -- From old, the line may get this answer, take these words and lead to new. Want of memory may come at any time.
 abbrev pub Answers : Setup → List Entry → List ℕ → Answer → List ℕ → List Entry → Type 0
 Answers site old line NotBuilt taken new = IsUnserved site old line × Stays old taken new
+Answers site old line TooLong taken new = (line_limit < length line) × Stays old taken new
+Answers site old line (Unasked fault) taken new = IsUnasked site line fault × Stays old taken new
 Answers site old line (Replied reply) taken new = Replies site old line reply taken new
 Answers site old line WordsFault taken new = LacksWords site old line taken new
 Answers site old line (WordsSpent found) taken new = SpendsWords site old line found taken new
 Answers site old line Memory taken new = new ≡ old
 
--- the members of the answer that the words were spent
-abbrev pub spent_data : ℕ → Data
-spent_data found =
-    object (member (codes "fault") (string (codes "WordsSpent")) (member (codes "found") (number (unsigned found)) (member (codes "ok") (boolean false) no_members)))
-
 -- the text of an answer: compact JSON
 unfoldable pub answer_text : Setup → Answer → List ℕ
 answer_text site NotBuilt = codes "{\"fault\":\"NotBuilt\",\"ok\":false}"
+answer_text site TooLong = compact_text (unkept_data unkept.LineTooLong)
+answer_text site (Unasked fault) = compact_text (unkept_data (unkept_of fault))
 answer_text site (Replied reply) = compact_text (reply_data site reply)
-answer_text site WordsFault = codes "{\"fault\":\"WordsFault\",\"ok\":false}"
-answer_text site (WordsSpent found) = compact_text (spent_data found)
-answer_text site Memory = codes "{\"fault\":\"Memory\",\"ok\":false}"
+answer_text site WordsFault = compact_text (unkept_data unkept.WordsFault)
+answer_text site (WordsSpent found) = compact_text (unkept_data (unkept.WordsSpent found))
+answer_text site Memory = compact_text (unkept_data unkept.Memory)
 
 -- an answer tells a fault of the words
 abbrev pub tells_words_fault : Answer → Bool
 tells_words_fault NotBuilt = false
+tells_words_fault TooLong = false
+tells_words_fault (Unasked fault) = false
 tells_words_fault (Replied reply) = false
 tells_words_fault WordsFault = true
 tells_words_fault (WordsSpent found) = false
@@ -100,6 +111,8 @@ tells_words_fault Memory = false
 -- the stations that the answer names are of the site
 abbrev pub IsPrintable : Setup → Answer → Type 0
 IsPrintable site NotBuilt = Unit {0}
+IsPrintable site TooLong = Unit {0}
+IsPrintable site (Unasked fault) = Unit {0}
 IsPrintable site (Replied reply) = NamesStationsOf site reply
 IsPrintable site WordsFault = Unit {0}
 IsPrintable site (WordsSpent found) = Unit {0}

@@ -1,5 +1,4 @@
 pub mod Answers
-pub mod Dates
 pub mod Keeping
 pub mod Limits
 pub mod Lines
@@ -7,7 +6,6 @@ pub mod Newline
 pub mod Promises
 pub mod Puts
 pub mod Reading
-pub mod Requests
 pub mod Rules
 pub mod Script
 pub mod Site

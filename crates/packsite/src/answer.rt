@@ -1,35 +1,37 @@
 //! Answering one line.
-ghost use Rattle.std.specs.Prelude.{◌≡◌, ◌≤◌, ◌<◌, ◌++◌, ◌∷◌, [], List, ℕ, Some, length, IfOk, string_bytes};
+ghost use Rattle.std.specs.Prelude.{◌≡◌, ◌≤◌, ◌<◌, ◌++◌, ◌∷◌, [], List, ℕ, Ok, length, IfOk, string_bytes};
 ghost use Rattle.outside.specs.Causes.{HasCauseIf};
 ghost use Rattle.outside.specs.Devices.{Takes};
 ghost use Rattle.packsite.specs.Limits.{line_limit};
 ghost use Rattle.packsite.specs.Lines.{IsHeld};
 ghost use Rattle.packsite.specs.Newline.{newline};
-ghost use Rattle.packsite.specs.Requests.{ask_of};
+ghost use Rattle.deed_json.specs.Asked.{asked_of};
+ghost use Rattle.deed_json.specs.Unkept.{unkept_data};
 ghost use Rattle.packsite.specs.Rules.{rule_of};
 ghost use Rattle.packsite.specs.Standing.{Stands};
 ghost use Rattle.site_core.specs.Plans.{IsNext, HasRoomFor};
 ghost use Rattle.deed_words.specs.Proper.{IsProperAsk};
 ghost use Rattle.packsite.specs.Keeping.{Keeps};
-ghost use Rattle.serde_json.specs.View.{view};
 ghost use Rattle.serde_json.specs.Written.{compact_text};
-ghost use Rattle.packsite.specs.Answers.{spent_data, Answers, IsPrintable, answer_text, is_answered, tells_words_fault};
+ghost use Rattle.packsite.specs.Answers.{Answers, IsPrintable, answer_text, is_answered, tells_words_fault};
 
 use crate::lines::Line;
-use crate::request::read_ask;
-use deed_json::reply_text;
+use deed_json::{AskFault, Unkept, read_ask, reply_text, unkept_text};
 use deed_words::{Ask, Reply, Rule, Setup};
 use gs1_keys::Memory;
 use outside::Words;
-use serde_json::{Value, json};
 use site_core::{PlanFault, Planned, Site, is_built};
 use std::alloc::Global;
 
 /// What comes of a line.
 #[derive(Debug, Drop)]
 pub enum Answer {
-    /// The line is answered by nothing that is built.
+    /// The request is answered by nothing that is built. Nothing was kept.
     NotBuilt,
+    /// The line has more than 1,048,576 bytes.
+    TooLong,
+    /// The line asks for nothing, for this reason, which isn't `AskFault::Memory`.
+    Unasked(AskFault),
     /// The request was kept, with this reply.
     Replied(Reply),
     /// A random word couldn't be had. Nothing was kept.
@@ -51,12 +53,12 @@ pub fn answer_line<W: Words>(alloc: Global, site: &mut Site, line: &Line, words:
     ensures printable { IsPrintable site.new.setup result }
 {
     let Line::Held(bytes) = line else {
-        return Answer::NotBuilt;
+        return Answer::TooLong;
     };
     match read_ask(alloc, site.setup(), bytes) {
-        Ok(Some(ask)) => answer_ask(site, ask, words),
-        Ok(None) => Answer::NotBuilt,
-        Err(_) => Answer::Memory,
+        Ok(ask) => answer_ask(site, ask, words),
+        Err(AskFault::Memory) => Answer::Memory,
+        Err(fault) => Answer::Unasked(fault),
     }
 }
 
@@ -65,7 +67,7 @@ fn answer_ask<W: Words>(site: &mut Site, ask: Ask, words: &mut W) -> Answer
     requires stands { Stands site.old.setup site.old.history }
     requires station { ask.station < length site.old.setup.stations }
     requires proper { IsProperAsk ask }
-    ensures answer { (line : List ℕ) → length line ≤ line_limit → ask_of site.old.setup line ≡ Some ask
+    ensures answer { (line : List ℕ) → length line ≤ line_limit → asked_of site.old.setup line ≡ Ok ask
         → Takes (W.words_left words.old) (W.words_left words.new) (λ taken. Answers site.old.setup site.old.history line result taken site.new.history) }
     ensures cause { HasCauseIf (tells_words_fault result) (W.word_faults words.old) (W.word_faults words.new) }
     ensures setup { site.new.setup ≡ site.old.setup }
@@ -126,9 +128,11 @@ pub fn print(alloc: Global, setup: &Setup, answer: &Answer) -> Result<String, Me
 {
     match answer {
         Answer::NotBuilt => fixed(alloc, "{\"fault\":\"NotBuilt\",\"ok\":false}\n"),
-        Answer::WordsFault => fixed(alloc, "{\"fault\":\"WordsFault\",\"ok\":false}\n"),
-        Answer::WordsSpent(found) => ended(spent_text(alloc, *found)?),
-        Answer::Memory => fixed(alloc, "{\"fault\":\"Memory\",\"ok\":false}\n"),
+        Answer::TooLong => told(alloc, Unkept::LineTooLong),
+        Answer::Unasked(fault) => told(alloc, Unkept::from(*fault)),
+        Answer::WordsFault => told(alloc, Unkept::WordsFault),
+        Answer::WordsSpent(found) => told(alloc, Unkept::WordsSpent(*found)),
+        Answer::Memory => told(alloc, Unkept::Memory),
         Answer::Replied(reply) => ended(reply_text(alloc, reply, setup)?),
     }
 }
@@ -151,20 +155,9 @@ fn ended(text: String) -> Result<String, Memory>
     }
 }
 
-/// The answer that the words were spent.
-fn spent_value(alloc: Global, found: u64) -> Result<Value, Memory>
-    ensures { IfOk result (λ v. view v ≡ spent_data found) }
+/// The line of what isn't kept.
+fn told(alloc: Global, unkept: Unkept) -> Result<String, Memory>
+    ensures { IfOk result (λ line. string_bytes line ≡ compact_text (unkept_data unkept) ++ newline ∷ []) }
 {
-    let value = json!(in alloc; {"fault": "WordsSpent", "found": found, "ok": false});
-    value.map_err(|_| Memory)
-}
-
-/// Its text.
-fn spent_text(alloc: Global, found: u64) -> Result<String, Memory>
-    ensures { IfOk result (λ text. string_bytes text ≡ compact_text (spent_data found)) }
-{
-    match spent_value(alloc, found)?.to_string(alloc) {
-        Ok(text) => Ok(text),
-        Err(_) => Err(Memory),
-    }
+    ended(unkept_text(alloc, unkept)?)
 }

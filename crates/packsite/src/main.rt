@@ -4,12 +4,10 @@
 
 mod answer;
 mod built_in;
-mod expiry;
 mod fault;
 mod lines;
 mod newline;
 mod put;
-mod request;
 mod run;
 mod top;
 

@@ -1,7 +1,10 @@
 ghost use Rattle.std.specs.Prelude.{Some};
 
+use crate::built_in::served_site;
 use crate::top::site_top;
+use deed_words::{Role, StationId};
 use outside::{Failed, MemorySink, MemorySource, MemoryWords, Sink, Source};
+use site_core::Site;
 use std::test::Fail;
 
 const ORDER: &[u8] =
@@ -10,6 +13,8 @@ const ORDER: &[u8] =
 const NEW: &[u8] = b"{\"already\":0,\"new\":1,\"ok\":true}\n";
 
 const NOT_BUILT: &[u8] = b"{\"fault\":\"NotBuilt\",\"ok\":false}\n";
+
+const BAD_LINE: &[u8] = b"{\"fault\":\"BadLine\",\"ok\":false}\n";
 
 /// Runs the program over lines, with the calls of input and output that fail, and gives its status and what it put.
 fn run_on(
@@ -98,64 +103,47 @@ fn lines_are_answered_in_order(rt: HostRuntime) -> Result<(), Fail> {
     let (status, put) = run_on(&rt, &input, &[], &[])?;
     assert_eq!(rt;
         put,
-        joined(
-            &rt,
-            &[NOT_BUILT, NEW, NOT_BUILT, already, already, NOT_BUILT]
-        )?
+        joined(&rt, &[BAD_LINE, NEW, BAD_LINE, already, already, NOT_BUILT])?
     );
     assert_eq!(rt; status, 0);
     Ok(())
 }
 
-/// Whether the line is answered by NotBuilt, at a site that has the batch B6.
-fn is_unanswered(rt: &HostRuntime, line: &[u8]) -> Result<bool, Fail> {
+/// Whether the line gets this answer at a site that has the batch B6.
+fn answers(rt: &HostRuntime, line: &[u8], answer: &[u8]) -> Result<bool, Fail> {
     let input = joined(rt, &[ORDER, line, b"\n"])?;
     let (status, put) = run_on(rt, &input, &[], &[])?;
-    Ok(status == 0 && put == joined(rt, &[NEW, NOT_BUILT])?)
+    Ok(status == 0 && put == joined(rt, &[NEW, answer])?)
 }
 
 /// The same of the order as request 2, with one text of it replaced.
-fn is_refused(rt: &HostRuntime, from: &str, to: &str) -> Result<bool, Fail> {
+fn answers_changed(rt: &HostRuntime, from: &str, to: &str, answer: &[u8]) -> Result<bool, Fail> {
     let Ok(text) = str::from_utf8(ORDER) else {
         return Err(Fail::from("no text"));
     };
     let next = text.replace(rt.alloc(), "\"number\":1", "\"number\":2")?;
-    is_unanswered(rt, next.replace(rt.alloc(), from, to)?.as_bytes())
+    answers(rt, next.replace(rt.alloc(), from, to)?.as_bytes(), answer)
+}
+
+#[test]
+fn what_asks_for_nothing_is_told_why(rt: HostRuntime) -> Result<(), Fail> {
+    assert!(rt; answers(&rt, b"\xff", BAD_LINE)?);
+    assert!(rt; answers_changed(&rt, "\"number\":2", "\"number\":2.0", BAD_LINE)?);
+    let close: &[u8] =
+        b"{\"station\":\"X\",\"number\":1,\"deed\":{\"do\":\"close\",\"batch\":\"B6\"}}";
+    let no_station: &[u8] = b"{\"fault\":\"NoStation\",\"ok\":false}\n";
+    assert!(rt; answers(&rt, close, no_station)?);
+    let no_batch: &[u8] = b"{\"code\":2,\"fault\":\"BadDeed\",\"name\":\"batch\",\"ok\":false}\n";
+    assert!(rt; answers_changed(&rt, "\"batch\":\"B6\",", "", no_batch)?);
+    Ok(())
 }
 
 #[test]
 fn each_cause_of_not_built(rt: HostRuntime) -> Result<(), Fail> {
-    assert!(rt; is_unanswered(&rt, b"{")?);
-    assert!(rt; is_unanswered(&rt, b"[]")?);
-    assert!(rt; is_unanswered(&rt, b"\xff")?);
-    assert!(rt; is_refused(&rt, "P1", "X")?);
-    assert!(rt; is_refused(&rt, "\"P1\"", "1")?);
-    assert!(rt; is_refused(&rt, "\"number\":2", "\"number\":2.0")?);
-    assert!(rt; is_refused(&rt, "\"number\":2", "\"number\":1")?);
-    assert!(rt; is_refused(&rt, "\"number\":2", "\"number\":3")?);
-    assert!(rt; is_refused(&rt, "\"number\":2", "\"number\":0")?);
-    assert!(rt; is_refused(&rt, "\"deed\"", "\"deeds\"")?);
-    assert!(rt; is_refused(&rt, "\"order\"", "\"close\"")?);
-    assert!(rt; is_refused(&rt, "\"do\":\"order\",", "")?);
-    assert!(rt; is_refused(&rt, "\"lot\":\"LOT6\",", "")?);
-    assert!(rt; is_refused(&rt, "LOT6", "LOT678901234567890123")?);
-    assert!(rt; is_refused(&rt, "LOT6", "LOT 6")?);
-    assert!(rt; is_refused(&rt, "\"do\":", "\"operator\":null,\"do\":")?);
-    assert!(rt; is_refused(&rt, "80614141123458", "80614141123459")?);
-    assert!(rt; is_refused(&rt, "2027-12-31", "2027-12")?);
-    assert!(rt; is_refused(&rt, "2027-12-31", "2027-02-29")?);
-    assert!(rt; is_refused(&rt, "2027-12-31", "2100-01-01")?);
-    assert!(rt; is_refused(&rt, "\"quantity\":2", "\"quantity\":0")?);
-    assert!(rt; is_refused(&rt, "\"quantity\":2", "\"quantity\":1000001")?);
-    assert!(rt; is_refused(&rt, "\"case\":2", "\"case\":1001")?);
-    assert!(rt; is_refused(&rt, "\"pallet\":0", "\"pallet\":1001")?);
-    // a role, a product that isn't the site's, and another order of the same batch
-    assert!(rt; is_refused(&rt, "\"P1\",\"number\":2", "\"L1\",\"number\":1")?);
-    assert!(rt; is_refused(&rt, "80614141123458", "00000000000000")?);
-    assert!(rt; is_refused(&rt, "\"quantity\":2", "\"quantity\":3")?);
-    // draws of too many, and of more than half of the serials that there are
-    assert!(rt; is_unanswered(&rt, &draw(&rt, 2, "B6", 10_001)?)?);
-    assert!(rt; is_unanswered(&rt, &draw(&rt, 2, "B6", 0)?)?);
+    // another number than the next one, another deed, a rule that isn't told yet
+    assert!(rt; answers_changed(&rt, "\"number\":2", "\"number\":1", NOT_BUILT)?);
+    assert!(rt; answers_changed(&rt, "\"order\"", "\"close\"", NOT_BUILT)?);
+    assert!(rt; answers_changed(&rt, "\"quantity\":2", "\"quantity\":3", NOT_BUILT)?);
     Ok(())
 }
 
@@ -212,7 +200,7 @@ fn each_answer_in_one_script(rt: HostRuntime) -> Result<(), Fail> {
     let eight: &[u8] = b"{\"ok\":true,\"serials\":[\"000008\"]}\n";
     assert_eq!(rt;
         put,
-        joined(&rt, &[NOT_BUILT, NEW, refused, NEW, fault, drawn, eight])?
+        joined(&rt, &[BAD_LINE, NEW, refused, NEW, fault, drawn, eight])?
     );
     assert_eq!(rt; status, 0);
     Ok(())
@@ -223,7 +211,8 @@ fn a_long_line_is_answered_and_read_to_its_end(rt: HostRuntime) -> Result<(), Fa
     let mut line = vec![in rt.alloc(); b' '; 1_048_577]?;
     line.push(b'\n')?;
     let (status, put) = run_on(&rt, &joined(&rt, &[&line, ORDER])?, &[], &[])?;
-    assert_eq!(rt; put, joined(&rt, &[NOT_BUILT, NEW])?);
+    let too_long: &[u8] = b"{\"fault\":\"LineTooLong\",\"ok\":false}\n";
+    assert_eq!(rt; put, joined(&rt, &[too_long, NEW])?);
     assert_eq!(rt; status, 0);
     // a request of 1,048,576 bytes is read
     let mut line = vec![in rt.alloc(); b' '; 1_048_577 - ORDER.len()]?;
@@ -345,6 +334,15 @@ fn pieces_may_be_small(rt: HostRuntime) -> Result<(), Fail> {
     let mut words = MemoryWords::new(Vec::new(alloc), Vec::new(alloc));
     let status = site_top(alloc, &args, &mut source, &mut sink, &mut words);
     assert_eq!(rt; status, 0);
-    assert_eq!(rt; put, joined(&rt, &[NEW, NOT_BUILT])?);
+    assert_eq!(rt; put, joined(&rt, &[NEW, BAD_LINE])?);
+    Ok(())
+}
+
+#[test]
+fn a_site_tells_what_it_keeps(rt: HostRuntime) -> Result<(), Fail> {
+    let setup = served_site(rt.alloc())?;
+    let site = Site::new(rt.alloc(), setup)?;
+    site.tell_kept();
+    assert_eq!(rt; site.setup().role(StationId(0)), Some(Role::Planner));
     Ok(())
 }

@@ -1,9 +1,9 @@
 -- Laws of the serials that were drawn, each with its GTIN.
-use Rattle.std.proofs.Common.{◌≡◌, ◌≢◌, ℕ, ◌+◌, ◌<◌, ◌^◌, Bool, true, false, cond, List, [], ◌∷◌, ◌++◌, length, refl, sym, ap, ◌∙◌, append_assoc, append-nil, subst, arith, length-append, get_or}
+use Rattle.std.proofs.Common.{◌≡◌, ◌≢◌, ℕ, ◌+◌, ◌-◌, ◌<◌, ◌^◌, Bool, true, false, cond, List, [], ◌∷◌, ◌++◌, length, take, refl, sym, ap, ◌∙◌, append_assoc, append-nil, subst, arith, length-append, get_or}
 use Rattle.std.specs.Prelude.{filter, map, bytes_eq, All}
-use Rattle.std.specs.List.{IsDistinct}
+use Rattle.std.specs.List.{IsDistinct, AllByRecursion}
 use Rattle.std.proofs.lemmas.List.Elements.{filter-append, All-head, All-tail, All-from_recursion}
-use Rattle.std.proofs.lemmas.List.{length-map, map-append}
+use Rattle.std.proofs.lemmas.List.{length-map, map-append, take_at}
 use Rattle.std.proofs.lemmas.Slice.Eq.{bytes_eq-Decides}
 use Rattle.std.proofs.lemmas.Cmp.{nat_list_eq_equiv}
 use Rattle.std.proofs.lemmas.Map.Keys.{IsDistinct-push, IsDistinct-head, IsDistinct-tail}
@@ -11,7 +11,10 @@ use Rattle.gs1_keys.specs.declared.form.SerialForm.{SerialForm}
 use Rattle.gs1_keys.specs.Forms.{is_among, AreDistinct, AreNew}
 use Rattle.serial_pool.proofs.Fresh.{neither_of}
 use Rattle.serial_pool.specs.declared.drawn.DrawnSerial.{DrawnSerial}
-use Rattle.serial_pool.specs.Held.{had_of, drawn_count, drawn_for, DrawnOnce, IsPool, PlanView, IsPlanFor}
+use Rattle.place_table.specs.View.{Indexed}
+use Rattle.serial_pool.specs.declared.tally.GtinCount.{GtinCount}
+use Rattle.serial_pool.specs.Index.{hash_in, count_of, IsKept}
+use Rattle.serial_pool.specs.Held.{had_of, drawn_count, drawn_for, DrawnOnce, IsDrawn, PlanView, IsPlanFor}
 
 pub drawn_count_is : (gtin : List ℕ) (pairs : List DrawnSerial) → length (filter (λ pair. bytes_eq gtin pair.gtin) pairs) ≡ drawn_count gtin pairs
 drawn_count_is gtin pairs = sym (length-map (filter (λ pair. bytes_eq gtin pair.gtin) pairs) (λ (pair : DrawnSerial). pair.serial))
@@ -89,25 +92,112 @@ none_distinct : AreDistinct []
 unfolding IsDistinct
 none_distinct = tt
 
-pub empty_pool : (pairs : List DrawnSerial) (capacity : ℕ) → pairs ≡ [] → IsPool pairs 0 capacity
-empty_pool pairs capacity e = subst (λ (xs : List DrawnSerial). IsPool xs 0 capacity) (sym e) (record {
-  once = λ gtin. none_distinct;
-  few = λ gtin. omega arith;
-  reserved = omega arith;
-})
+-- nothing was drawn yet
+pub nothing_drawn : (pairs : List DrawnSerial) → pairs ≡ [] → IsDrawn pairs
+nothing_drawn pairs e = subst IsDrawn (sym e) (record { once = λ gtin. none_distinct; few = λ gtin. omega arith })
 
--- a pool after a commit
-pub committed : (pairs new : List DrawnSerial) (plan : PlanView) (spare left capacity capacity' : ℕ) → IsPool pairs spare capacity → IsPlanFor pairs plan → new ≡ pairs ++ drawn_for plan.gtin plan.serials
-    → capacity' ≡ capacity → length plan.serials + left ≡ spare → IsPool new left capacity'
-committed pairs new plan spare left capacity capacity' pool made e same room =
-    let more : length (drawn_for plan.gtin plan.serials) ≡ length plan.serials = length-map plan.serials (λ (serial : List ℕ). record { gtin = plan.gtin; serial = serial }) in
-    let size : length new ≡ length pairs + length plan.serials = ap length e ∙ length-append pairs (drawn_for plan.gtin plan.serials) ∙ ap (λ n. length pairs + n) more in
-    let was = pool.reserved in
+pub nothing_kept : (pairs : List DrawnSerial) (table : Indexed) (rows : List GtinCount) (capacity : ℕ) → pairs ≡ [] → table.hashes ≡ [] → rows ≡ [] → IsKept pairs table rows 0 capacity
+nothing_kept pairs table rows capacity e f g =
     record {
-      once = once_after pairs new plan pool.once made e;
-      few = few_after pairs new plan pool.few made e;
-      reserved = omega arith;
+      hashed = f ∙ sym (ap (map hash_in) e);
+      counted = λ gtin. ap (count_of gtin) g ∙ sym (ap (drawn_count gtin) e);
+      roomy = omega arith;
+      reserved = let none : length pairs ≡ 0 = ap length e in omega (arith, none);
     }
+
+-- what was drawn, with a plan's serials more
+pub drawn_after : (pairs new : List DrawnSerial) (plan : PlanView) → IsDrawn pairs → IsPlanFor pairs plan → new ≡ pairs ++ drawn_for plan.gtin plan.serials → IsDrawn new
+drawn_after pairs new plan was made e = record { once = once_after pairs new plan was.once made e; few = few_after pairs new plan was.few made e }
+
+pub length-drawn_for : (own : List ℕ) (serials : List (List ℕ)) → length (drawn_for own serials) ≡ length serials
+length-drawn_for own serials = length-map serials (λ (serial : List ℕ). record { gtin = own; serial = serial })
+
+-- how many more a GTIN has then
+pub count_after : (gtin own : List ℕ) (pairs new : List DrawnSerial) (serials : List (List ℕ)) → new ≡ pairs ++ drawn_for own serials → drawn_count gtin new ≡ drawn_count gtin pairs + cond (bytes_eq gtin own) (length serials) 0
+count_after gtin own pairs new serials e =
+    ap (λ (xs : List DrawnSerial). length (had_of gtin xs)) e ∙ ap length (had_after gtin own pairs serials)
+    ∙ length-append (had_of gtin pairs) (cond (bytes_eq gtin own) serials [])
+    ∙ (elim (bytes_eq gtin own) as (λ b. drawn_count gtin pairs + length (cond b serials []) ≡ drawn_count gtin pairs + cond b (length serials) 0) [ true ↦ refl | false ↦ refl ])
+
+pub kept_after : (pairs new : List DrawnSerial) (plan : PlanView) (old table : Indexed) (rows counts : List GtinCount) (room left capacity capacity' : ℕ) → IsKept pairs old rows room capacity
+    → new ≡ pairs ++ drawn_for plan.gtin plan.serials → table.hashes ≡ map hash_in new → table.room + length plan.serials ≡ old.room → ((gtin : List ℕ) → count_of gtin counts ≡ count_of gtin rows + cond (bytes_eq gtin plan.gtin) (length plan.serials) 0)
+    → capacity' ≡ capacity → length plan.serials + left ≡ room → IsKept new table counts left capacity'
+kept_after pairs new plan old table rows counts room left capacity capacity' kept e hashed spare counted same size =
+    let long : length new ≡ length pairs + length plan.serials = ap length e ∙ length-append pairs (drawn_for plan.gtin plan.serials) ∙ ap (λ n. length pairs + n) (length-drawn_for plan.gtin plan.serials) in
+    let roomy = kept.roomy in
+    let reserved = kept.reserved in
+    record {
+      hashed = hashed;
+      counted = λ gtin. counted gtin ∙ ap (λ n. n + cond (bytes_eq gtin plan.gtin) (length plan.serials) 0) (kept.counted gtin) ∙ sym (count_after gtin plan.gtin pairs new plan.serials e);
+      roomy = omega (arith, roomy, spare, size);
+      reserved = omega (arith, reserved, long, same, size);
+    }
+
+-- ---- taken back
+
+distinct_front : (had serials : List (List ℕ)) → AreDistinct (had ++ serials) → AreDistinct had
+unfolding IsDistinct
+distinct_front [] serials once = tt
+distinct_front (h ∷ had) serials once = (front had once.0, distinct_front had serials once.1)
+  where
+    front : (xs : List (List ℕ)) → AllByRecursion (λ other. bytes_eq h other ≡ false) (xs ++ serials) → AllByRecursion (λ other. bytes_eq h other ≡ false) xs
+    front [] a = tt
+    front (x ∷ xs) a = (a.0, front xs a.1)
+
+behind : (h : List ℕ) (had serials : List (List ℕ)) → AllByRecursion (λ other. bytes_eq h other ≡ false) (had ++ serials) → AllByRecursion (λ other. bytes_eq h other ≡ false) serials
+behind h [] serials a = a
+behind h (x ∷ had) serials a = behind h had serials a.1
+
+-- what stands behind is unknown in front
+pub unknown_behind : (had serials : List (List ℕ)) → AreDistinct (had ++ serials) → All (λ s. is_among had s ≡ false) serials
+unknown_behind [] serials once = λ k d lt. refl
+unknown_behind (h ∷ had) serials once = λ k d lt.
+    let apart : bytes_eq h (get_or serials k d) ≡ false = All-from_recursion (λ (x : List ℕ). bytes_eq h x ≡ false) serials (behind h had serials (IsDistinct-head bytes_eq h (had ++ serials) once)) k d lt in
+    let rest : is_among had (get_or serials k d) ≡ false = unknown_behind had serials (IsDistinct-tail bytes_eq h (had ++ serials) once) k d lt in
+    rw (nat_list_eq_equiv.symm (get_or serials k d) h ∙ apart, rest) refl
+
+pub drawn_before : (pairs before : List DrawnSerial) (done : PlanView) → IsDrawn pairs → pairs ≡ before ++ drawn_for done.gtin done.serials → IsDrawn before
+drawn_before pairs before done was e =
+    record {
+      once = λ gtin. distinct_front (had_of gtin before) (had_of gtin (drawn_for done.gtin done.serials)) (subst AreDistinct (ap (had_of gtin) e ∙ had_of-append gtin before (drawn_for done.gtin done.serials)) (was.once gtin));
+      few = λ gtin. let all = was.few gtin in let more = count_after gtin done.gtin before pairs done.serials e in omega (arith, all, more);
+    }
+
+pub plan_again : (pairs before : List DrawnSerial) (done : PlanView) → IsDrawn pairs → pairs ≡ before ++ drawn_for done.gtin done.serials → IsPlanFor before done
+plan_again pairs before done was e =
+    let own : had_of done.gtin pairs ≡ had_of done.gtin before ++ done.serials = own_after done.gtin before pairs done.serials e in
+    let once : AreDistinct (had_of done.gtin before ++ done.serials) = subst AreDistinct own (was.once done.gtin) in
+    let few : drawn_count done.gtin pairs < 2 ^ 32 = was.few done.gtin in
+    let size : drawn_count done.gtin pairs ≡ drawn_count done.gtin before + length done.serials = ap length own ∙ length-append (had_of done.gtin before) done.serials in
+    record {
+      unknown = unknown_behind (had_of done.gtin before) done.serials once;
+      distinct = distinct_end (had_of done.gtin before) done.serials once;
+      few = omega (arith, few, size);
+    }
+
+pub kept_before : (pairs before : List DrawnSerial) (done : PlanView) (old table : Indexed) (rows counts : List GtinCount) (room more capacity capacity' : ℕ) → IsKept pairs old rows room capacity
+    → pairs ≡ before ++ drawn_for done.gtin done.serials → table.hashes ≡ map hash_in before → table.room ≡ old.room + length done.serials → ((gtin : List ℕ) → count_of gtin counts + cond (bytes_eq gtin done.gtin) (length done.serials) 0 ≡ count_of gtin rows)
+    → capacity' ≡ capacity → more ≡ room + length done.serials → IsKept before table counts more capacity'
+kept_before pairs before done old table rows counts room more capacity capacity' kept e hashed spare counted same size =
+    let long : length pairs ≡ length before + length done.serials = ap length e ∙ length-append before (drawn_for done.gtin done.serials) ∙ ap (λ n. length before + n) (length-drawn_for done.gtin done.serials) in
+    let roomy = kept.roomy in
+    let reserved = kept.reserved in
+    record {
+      hashed = hashed;
+      counted = λ gtin.
+          let had : drawn_count gtin pairs ≡ drawn_count gtin before + cond (bytes_eq gtin done.gtin) (length done.serials) 0 = count_after gtin done.gtin before pairs done.serials e in
+          let was : count_of gtin rows ≡ drawn_count gtin pairs = kept.counted gtin in
+          let now = counted gtin in
+          omega (arith, had, was, now);
+      roomy = omega (arith, roomy, spare, size);
+      reserved = omega (arith, reserved, long, same, size);
+    }
+
+-- what stands when the last serials are cut off
+pub cut_is : (pairs before : List DrawnSerial) (done : PlanView) (n : ℕ) → pairs ≡ before ++ drawn_for done.gtin done.serials → n ≡ length pairs - length done.serials → take n pairs ≡ before
+cut_is pairs before done n e size =
+    let long : length pairs ≡ length before + length done.serials = ap length e ∙ length-append before (drawn_for done.gtin done.serials) ∙ ap (λ n. length before + n) (length-drawn_for done.gtin done.serials) in
+    ap (take n) e ∙ take_at before (drawn_for done.gtin done.serials) n (omega (arith, size, long))
 
 -- what is new for a GTIN may be committed
 pub made_for : (pairs now : List DrawnSerial) (plan : PlanView) (gtin : List ℕ) (form : SerialForm) (n : ℕ) → now ≡ pairs → plan.gtin ≡ gtin → AreNew (had_of gtin pairs) form plan.serials → length plan.serials ≡ n → drawn_count gtin pairs + n < 2 ^ 32 → IsPlanFor now plan

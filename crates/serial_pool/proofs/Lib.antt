@@ -3,3 +3,5 @@ pub mod Sofar
 pub mod Told
 pub mod Holding
 pub mod Adding
+pub mod Tallies
+pub mod Found

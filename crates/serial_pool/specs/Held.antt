@@ -1,13 +1,14 @@
 -- What a pool holds: the serials that were drawn, each with its GTIN.
-use Rattle.std.specs.Prelude.{◌≡◌, ◌+◌, ◌<◌, ◌≤◌, ◌^◌, ℕ, Bool, false, not, List, length, map, filter, bytes_eq, All, ◌&&◌}
+use Rattle.std.specs.Prelude.{◌≡◌, ◌+◌, ◌++◌, ◌<◌, ◌≤◌, ◌^◌, ℕ, Bool, true, false, not, List, length, map, filter, bytes_eq, All, ◌&&◌}
 use Rattle.gs1_keys.specs.declared.form.SerialForm.{SerialForm}
 use Rattle.gs1_keys.specs.Forms.{is_among, is_in_form, AreDistinct}
 use Rattle.serial_pool.specs.declared.drawn.DrawnSerial.{DrawnSerial}
 
--- the serials in the order in which they were drawn, and for how many more there is room
+-- the serials in the order in which they were drawn, for how many more there is room, and for which GTINs
 pub record PoolView : Type 0 where
   pub drawn : List DrawnSerial
   pub room : ℕ
+  pub gtins : List (List ℕ)
 
 -- serials that are to be drawn for a GTIN
 pub record PlanView : Type 0 where
@@ -40,13 +41,17 @@ pub record IsPlanFor (pairs : List DrawnSerial) (plan : PlanView) : Type 0 where
   pub distinct : AreDistinct plan.serials
   pub few : drawn_count plan.gtin pairs + length plan.serials < 2 ^ 32
 
--- there is room for all the plan's serials
-abbrev pub HasRoomFor : PoolView → PlanView → Type 0
-HasRoomFor pool plan = length plan.serials ≤ pool.room
+-- there is room for all the plan's serials, and for their GTIN
+pub record HasRoomFor (pool : PoolView) (plan : PlanView) : Type 0 where
+  pub serials : length plan.serials ≤ pool.room
+  pub gtin : is_among pool.gtins plan.gtin ≡ true
 
--- what is always so of a pool: no serial of any GTIN was drawn twice, fewer than 2 ^ 32 of each were drawn, and the
--- room is there
-pub record IsPool (pairs : List DrawnSerial) (spare capacity : ℕ) : Type 0 where
+-- what is taken back is what was drawn last
+pub record IsLastDrawn (pairs : List DrawnSerial) (done : PlanView) : Type 0 where
+  pub before : List DrawnSerial
+  pub is : pairs ≡ before ++ drawn_for done.gtin done.serials
+
+-- what is always so of what was drawn: no serial of any GTIN twice, and fewer than 2 ^ 32 of each
+pub record IsDrawn (pairs : List DrawnSerial) : Type 0 where
   pub once : DrawnOnce pairs
   pub few : (gtin : List ℕ) → drawn_count gtin pairs < 2 ^ 32
-  pub reserved : length pairs + spare ≤ capacity

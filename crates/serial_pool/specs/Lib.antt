@@ -1,3 +1,4 @@
 pub mod Drawing
 pub mod Held
 pub mod Ends
+pub mod Index

@@ -9,13 +9,15 @@ mod drawn;
 mod fault;
 mod known;
 mod laws;
+mod new_serials;
 mod plan;
 mod pool;
+mod tally;
 
 pub use drawn::DrawnSerial;
 pub use fault::{DrawFault, KnownFault};
 pub use laws::{commits_once, draws_new, takes_the_first};
-pub use plan::{DrawPlan, copied};
+pub use plan::{DrawDone, DrawPlan, copied};
 pub use pool::Pool;
 
 #[cfg(test)]

@@ -29,6 +29,21 @@ impl DrawPlan {
     }
 }
 
+/// Serials that were drawn last for a GTIN: what is needed to take them back.
+#[derive(Drop)]
+pub struct DrawDone {
+    pub(crate) gtin: Gtin,
+    pub(crate) serials: Serials,
+}
+
+impl Model for DrawDone {
+    ghost use Rattle.serial_pool.specs.Held.{PlanView};
+
+    ghost Value = { PlanView };
+
+    ghost view = { λ p. record { gtin = p.gtin; serials = p.serials } };
+}
+
 /// The same serials once more, as for an entry beside its plan.
 pub fn copied(alloc: Global, serials: &Serials) -> Result<Serials, Memory>
     ensures { IfOk result (λ copy. copy ≡ serials.now) }

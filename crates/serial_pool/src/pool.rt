@@ -1,19 +1,22 @@
 //! The pool of the serials that were drawn.
-ghost use Rattle.std.specs.Prelude.{◌≡◌, ◌≢◌, ◌+◌, ◌^◌, ◌<◌, ◌≤◌, ◌++◌, ℕ, List, [], length as count_of, All, true, IfOk, OnOk};
+ghost use Rattle.std.specs.Prelude.{◌≡◌, ◌≢◌, ◌+◌, ◌^◌, ◌<◌, ◌≤◌, ◌++◌, ℕ, List, [], length as count_of, map, All, true, IfOk, OnOk, vec_len, vec_capacity};
 ghost use Rattle.gs1_keys.specs.Keys.{IsText};
 ghost use Rattle.gs1_keys.specs.Forms.{is_among, is_form, AreNew};
 ghost use Rattle.outside.specs.Causes.{HasCauseIf};
 ghost use Rattle.outside.specs.Devices.{Takes};
 ghost use Rattle.serial_pool.specs.Ends.{DrawEnds, KnownEnds, is_words_fault};
-ghost use Rattle.serial_pool.specs.Held.{had_of, drawn_count, drawn_for, DrawnOnce, IsPlanFor, HasRoomFor};
+ghost use Rattle.serial_pool.specs.Held.{had_of, drawn_count, drawn_for, DrawnOnce, IsPlanFor, IsLastDrawn, HasRoomFor};
+ghost use Rattle.serial_pool.specs.Index.{hash_in};
 
 use crate::draw::draw;
-use crate::drawn::{DrawnSerial, append, count_drawn, was_drawn};
+use crate::drawn::{DrawnSerial, append, cut_off, was_drawn};
 use crate::fault::{DrawFault, KnownFault};
 use crate::known::know;
-use crate::plan::DrawPlan;
+use crate::plan::{DrawDone, DrawPlan};
+use crate::tally::Tally;
 use gs1_keys::{Gtin, Memory, SerialForm, Serials, Text20};
 use outside::Words;
+use place_table::PlaceTable;
 use std::alloc::Global;
 use std::marker::Model;
 
@@ -22,19 +25,24 @@ use std::marker::Model;
 pub struct Pool {
     alloc: Global,
     drawn: Vec<DrawnSerial>,
-    // For how many more serials there is room.
+    /// Finds a serial that was drawn by its GTIN and itself.
+    table: PlaceTable,
+    /// How many were drawn for each GTIN.
+    tally: Tally,
+    /// For how many more serials there is room.
     room: usize,
 }
 
 impl Model for Pool {
     ghost use Rattle.std.specs.Prelude.{vec_capacity};
-    ghost use Rattle.serial_pool.specs.Held.{PoolView, IsPool};
+    ghost use Rattle.serial_pool.specs.Held.{PoolView, IsDrawn};
+    ghost use Rattle.serial_pool.specs.Index.{gtins_of, IsKept};
 
     ghost Value = { PoolView };
 
-    ghost view = { λ p. record { drawn = p.drawn.items; room = p.room } };
+    ghost view = { λ p. record { drawn = p.drawn.items; room = p.room; gtins = gtins_of p.tally } };
 
-    ghost invariant = { λ p. IsPool p.drawn.items p.room (vec_capacity p.drawn) };
+    ghost invariant = { λ p. IsDrawn p.drawn.items × IsKept p.drawn.items p.table p.tally p.room (vec_capacity p.drawn) };
 }
 
 impl Pool {
@@ -46,6 +54,8 @@ impl Pool {
         Pool {
             alloc,
             drawn: Vec::new(alloc),
+            table: PlaceTable::new(alloc),
+            tally: Tally::new(alloc),
             room: 0,
         }
     }
@@ -77,6 +87,7 @@ impl Pool {
         ensures room { IfOk result (λ plan. HasRoomFor self.new plan) }
         ensures drawn { self.new.drawn ≡ self.old.drawn }
         ensures kept { self.old.room ≤ self.new.room }
+        ensures still { (other : List ℕ) → is_among self.old.gtins other ≡ true → is_among self.new.gtins other ≡ true }
     {
         let have = u64::from(self.drawn(gtin));
         let asked = u64::from(count);
@@ -84,8 +95,16 @@ impl Pool {
         if have + asked > half {
             return Err(DrawFault::PoolThin(have, asked, half));
         }
-        let plan = draw(self.alloc, self.drawn.as_slice(), gtin, form, count, words)?;
-        self.make_room(plan.serials.len())?;
+        let plan = draw(
+            self.alloc,
+            &self.table,
+            self.drawn.as_slice(),
+            gtin,
+            form,
+            count,
+            words,
+        )?;
+        self.make_room(gtin, plan.serials.len())?;
         Ok(plan)
     }
 
@@ -110,14 +129,22 @@ impl Pool {
         ensures room { IfOk result (λ plan. HasRoomFor self.new plan) }
         ensures drawn { self.new.drawn ≡ self.old.drawn }
         ensures kept { self.old.room ≤ self.new.room }
+        ensures still { (other : List ℕ) → is_among self.old.gtins other ≡ true → is_among self.new.gtins other ≡ true }
     {
-        let plan = know(self.alloc, self.drawn.as_slice(), gtin, form, serials)?;
-        self.make_room(plan.serials.len())?;
+        let plan = know(
+            self.alloc,
+            &self.table,
+            self.drawn.as_slice(),
+            gtin,
+            form,
+            serials,
+        )?;
+        self.make_room(gtin, plan.serials.len())?;
         Ok(plan)
     }
 
-    /// Draws what was planned. It takes no memory.
-    pub fn commit_draw(&mut self, plan: DrawPlan)
+    /// Draws what was planned, and tells what was done. It takes no memory.
+    pub fn commit_draw(&mut self, plan: DrawPlan) -> DrawDone
         requires made_for { IsPlanFor self.old.drawn plan }
         requires room { HasRoomFor self.old plan }
         ensures drawn { self.new.drawn ≡ self.old.drawn ++ drawn_for plan.gtin plan.serials }
@@ -125,40 +152,85 @@ impl Pool {
         ensures others { (gtin : List ℕ) → gtin ≢ plan.gtin → had_of gtin self.new.drawn ≡ had_of gtin self.old.drawn }
         ensures once { DrawnOnce self.new.drawn }
         ensures room { self.new.room + count_of plan.serials ≡ self.old.room }
+        ensures gtins { self.new.gtins ≡ self.old.gtins }
+        ensures done { result ≡ plan }
     {
         let count = plan.serials.len();
-        append(&mut self.drawn, plan.gtin, &plan.serials);
+        append(&mut self.drawn, &mut self.table, plan.gtin, &plan.serials);
+        self.tally.raise(&plan.gtin, count as u32);
         self.room -= count;
+        DrawDone {
+            gtin: plan.gtin,
+            serials: plan.serials,
+        }
+    }
+
+    /// Takes back what was drawn last, and gives its plan and the room for it again. It takes no memory.
+    pub fn take_back(&mut self, done: DrawDone) -> DrawPlan
+        requires last { IsLastDrawn self.old.drawn done }
+        requires known { is_among self.old.gtins done.gtin ≡ true }
+        ensures drawn { self.old.drawn ≡ self.new.drawn ++ drawn_for done.gtin done.serials }
+        ensures room { self.new.room ≡ self.old.room + count_of done.serials }
+        ensures gtins { self.new.gtins ≡ self.old.gtins }
+        ensures plan { result ≡ done }
+        ensures made_for { IsPlanFor self.new.drawn result }
+        ensures has_room { HasRoomFor self.new result }
+    {
+        let count = done.serials.len();
+        cut_off(&mut self.drawn, &mut self.table, count);
+        self.tally.lower(&done.gtin, count as u32);
+        self.room += count;
+        DrawPlan {
+            gtin: done.gtin,
+            serials: done.serials,
+        }
     }
 
     /// Whether the serial was drawn for the GTIN.
     pub fn has(&self, gtin: &Gtin, serial: &Text20) -> bool
         ensures { result ≡ is_among (had_of gtin.now self.now.drawn) serial.now }
     {
-        was_drawn(self.drawn.as_slice(), gtin, serial)
+        was_drawn(&self.table, self.drawn.as_slice(), gtin, serial)
     }
 
     /// How many serials were drawn for the GTIN.
-    #[tactic(auto, using(crate::proofs::Holding::drawn_count_is))]
     pub fn drawn(&self, gtin: &Gtin) -> u32
         ensures count { result ≡ drawn_count gtin.now self.now.drawn }
         ensures once { DrawnOnce self.now.drawn }
     {
-        count_drawn(self.drawn.as_slice(), gtin) as u32
+        self.tally.count(gtin)
     }
 
-    /// Makes room for so many more serials.
-    fn make_room(&mut self, more: usize) -> Result<(), Memory>
+    /// Makes room for so many more serials of the GTIN.
+    fn make_room(&mut self, gtin: &Gtin, more: usize) -> Result<(), Memory>
         ensures drawn { self.new.drawn ≡ self.old.drawn }
-        ensures ok { OnOk result (more ≤ self.new.room) }
+        ensures ok { OnOk result ((more ≤ self.new.room) × (is_among self.new.gtins gtin.now ≡ true)) }
         ensures kept { self.old.room ≤ self.new.room }
+        ensures still { (other : List ℕ) → is_among self.old.gtins other ≡ true → is_among self.new.gtins other ≡ true }
     {
-        match self.drawn.reserve(more) {
-            Ok(()) => {
-                self.room = self.room.max(more);
-                Ok(())
-            }
-            Err(_) => Err(Memory),
-        }
+        self.tally.know(gtin)?;
+        reserve(&mut self.drawn, &mut self.table, more)?;
+        self.room = self.room.max(more);
+        Ok(())
     }
+}
+
+/// How many serials there are at most.
+const MOST_SERIALS: usize = 1 << 30;
+
+/// Makes room for so many more serials and their places.
+fn reserve(drawn: &mut Vec<DrawnSerial>, table: &mut PlaceTable, more: usize) -> Result<(), Memory>
+    requires hashed { table.old.hashes ≡ map hash_in drawn.old.items }
+    ensures items { drawn.new.items ≡ drawn.old.items }
+    ensures hashes { table.new.hashes ≡ table.old.hashes }
+    ensures capacity { vec_capacity drawn.old ≤ vec_capacity drawn.new }
+    ensures places { table.old.room ≤ table.new.room }
+    ensures room { OnOk result ((more ≤ table.new.room) × (vec_len drawn.new + more ≤ vec_capacity drawn.new)) }
+{
+    if more > MOST_SERIALS || drawn.len() > MOST_SERIALS - more {
+        return Err(Memory);
+    }
+    table.ready(more)?;
+    drawn.reserve(more)?;
+    Ok(())
 }

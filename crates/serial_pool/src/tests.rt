@@ -181,6 +181,61 @@ fn a_word_fails_in_mid_draw(rt: HostRuntime) -> Result<(), Fail> {
 }
 
 #[test]
+fn what_was_drawn_last_is_taken_back(rt: HostRuntime) -> Result<(), Fail> {
+    let gtin = Gtin::read(b"80614141123458")?;
+    let mut pool = Pool::new(rt.alloc());
+    let mut words = words_of(rt.alloc(), &[1, 2, 3], &[])?;
+    let plan = draw_from(&mut pool, &gtin, &SIX_DIGITS, &mut words, 2)?;
+    let done = pool.commit_draw(plan);
+    assert_eq!(rt; pool.drawn(&gtin), 2);
+    let plan = pool.take_back(done);
+    assert_eq!(rt; pool.drawn(&gtin), 0);
+    assert!(rt; !pool.has(&gtin, &Text20::read(b"000001")?));
+    assert!(rt; are(plan.serials(), &["000001", "000002"]));
+    pool.commit_draw(plan);
+    assert!(rt; pool.has(&gtin, &Text20::read(b"000002")?));
+    Ok(())
+}
+
+/// Draws the serials of so many numbers from a first one on.
+fn draw_block(
+    alloc: Global,
+    pool: &mut Pool,
+    gtin: &Gtin,
+    first: u64,
+    count: u32,
+) -> Result<(), Fail>
+    requires some { 1 ≤ count }
+    requires few { count < 2 ^ 31 }
+{
+    let mut words = Vec::new(alloc);
+    for number in first..first.saturating_add(u64::from(count)) {
+        words.push(number)?;
+    }
+    let mut words = MemoryWords::new(words, Vec::new(alloc));
+    let plan = draw_from(pool, gtin, &SIX_DIGITS, &mut words, count)?;
+    pool.commit_draw(plan);
+    Ok(())
+}
+
+#[test]
+fn a_pool_is_drawn_to_its_half(rt: HostRuntime) -> Result<(), Fail> {
+    let gtin = Gtin::read(b"80614141123458")?;
+    let mut pool = Pool::new(rt.alloc());
+    for block in 0..49 {
+        draw_block(rt.alloc(), &mut pool, &gtin, block * 10_000, 10_000)?;
+    }
+    draw_block(rt.alloc(), &mut pool, &gtin, 490_000, 9_999)?;
+    assert_eq!(rt; pool.drawn(&gtin), 499_999);
+    let mut words = words_of(rt.alloc(), &[490_000, 999_999], &[])?;
+    let thin = draw_from(&mut pool, &gtin, &SIX_DIGITS, &mut words, 2);
+    assert_eq!(rt; thin.err(), Some(DrawFault::PoolThin(499_999, 2, 500_000)));
+    let plan = draw_from(&mut pool, &gtin, &SIX_DIGITS, &mut words, 1)?;
+    assert!(rt; are(plan.serials(), &["999999"]));
+    Ok(())
+}
+
+#[test]
 fn each_gtin_has_its_own(rt: HostRuntime) -> Result<(), Fail> {
     let one = Gtin::read(b"80614141123458")?;
     let other = Gtin::read(b"00614141123452")?;

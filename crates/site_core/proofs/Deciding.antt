@@ -17,12 +17,12 @@ use Rattle.deed_words.specs.Effects.{effect, gtin_of, with_orders, with_drawn}
 use Rattle.deed_words.specs.Replies.{after, unless_broken, reply_to, replied, answer_to, orders_answer}
 use Rattle.deed_words.specs.History.{MayDraw, serials_of, AreNewFor}
 use Rattle.serial_pool.specs.Drawing.{IsDraw}
-use Rattle.serial_pool.specs.Held.{PlanView, IsPlanFor, drawn_for}
+use Rattle.serial_pool.specs.Held.{PoolView, PlanView, IsPlanFor, drawn_for}
 use Rattle.std.specs.Prelude.{Result, Ok, Err, IfOk, IfErr}
 use Rattle.site_core.specs.declared.planned.PlanFault.{PlanFault}
 use Rattle.site_core.specs.declared.planned.PlanFault.TheVariants.{Memory, WordsFault, WordsSpent}
 use Rattle.site_core.specs.DrawEnds.{DrawEnds}
-use Rattle.site_core.specs.Draws.{Draws, Spends, Stops, form_for, drawn_in, drawn_by_plan, MayCommit}
+use Rattle.site_core.specs.Draws.{Draws, Spends, Stops, form_for, drawn_in, drawn_by_plan, MayCommit, HasRoomToDraw}
 use Rattle.site_core.specs.Decisions.{IsOf, IsDecided, Decides}
 use Rattle.site_core.specs.declared.decision.Decision.{Decision}
 use Rattle.site_core.proofs.Serials.{drawn_more}
@@ -86,8 +86,8 @@ draw_decided site w station name count taken plan decision e draws new gtin fits
     }
 
 -- where nothing is drawn, there is room for it
-pub no_room_needed : (draw : Option PlanView) (room : ℕ) → draw ≡ None → length (drawn_by_plan draw) ≤ room
-no_room_needed draw room e = subst (λ (p : Option PlanView). length (drawn_by_plan p) ≤ room) (sym e) (omega arith)
+pub no_room_needed : (draw : Option PlanView) (pool : PoolView) → draw ≡ None → HasRoomToDraw pool draw
+no_room_needed draw pool e = subst (HasRoomToDraw pool) (sym e) tt
 
 -- a draw that couldn't be planned
 pub failed_decided : (site : Setup) (w : World) (station : ℕ) (name : Text) (count : ℕ) (taken : List ℕ) (fault : PlanFault) → None ≡ broken site w station (Draw name count)

@@ -1,6 +1,5 @@
 mod Deciding
 mod Drawable
-mod Each
 mod Keeping
 mod Ordered
 mod Serials

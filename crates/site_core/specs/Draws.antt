@@ -3,7 +3,7 @@ use Rattle.std.specs.Prelude.{◌≡◌, ℕ, List, [], map, Option, Some, None}
 use Rattle.std.specs.Option.{option_map_or}
 use Rattle.serial_pool.specs.Drawing.{IsDraw, IsSpent, IsUnfinished}
 use Rattle.serial_pool.specs.declared.drawn.DrawnSerial.{DrawnSerial}
-use Rattle.serial_pool.specs.Held.{PlanView, IsPlanFor, drawn_for}
+use Rattle.serial_pool.specs.Held.{PoolView, PlanView, IsPlanFor, HasRoomFor, drawn_for}
 use Rattle.gs1_keys.specs.declared.form.SerialForm.{SerialForm}
 use Rattle.gs1_keys.specs.declared.form.Alphabet.TheVariants.{Digits}
 use Rattle.deed_words.specs.Names.{Text}
@@ -49,6 +49,11 @@ drawn_in w = map drawn_serial w.rows
 abbrev pub drawn_by_plan : Option PlanView → List DrawnSerial
 drawn_by_plan None = []
 drawn_by_plan (Some plan) = drawn_for plan.gtin plan.serials
+
+-- the pool has room for the draw, if there is one
+abbrev pub HasRoomToDraw : PoolView → Option PlanView → Type 0
+HasRoomToDraw pool None = Unit {0}
+HasRoomToDraw pool (Some plan) = HasRoomFor pool plan
 
 -- the draw may be committed where so much was drawn
 abbrev pub MayCommit : List DrawnSerial → Option PlanView → Type 0

@@ -3,4 +3,3 @@ pub mod Draws
 pub mod DrawEnds
 pub mod View
 pub mod Plans
-pub mod Stations

@@ -13,7 +13,7 @@ use Rattle.deed_words.specs.History.{MayFollow, world_of}
 use Rattle.site_core.specs.declared.planned.Planned.{Planned}
 use Rattle.site_core.specs.declared.planned.PlanFault.{PlanFault}
 use Rattle.site_core.specs.declared.planned.PlanFault.TheVariants.{Memory, WordsFault, WordsSpent}
-use Rattle.site_core.specs.Draws.{Draws, Spends, Stops, drawn_in, drawn_by_plan, MayCommit}
+use Rattle.site_core.specs.Draws.{Draws, Spends, Stops, drawn_in, drawn_by_plan, MayCommit, HasRoomToDraw}
 use Rattle.site_core.specs.View.{View}
 
 -- the site does this deed
@@ -40,7 +40,7 @@ pub record IsNext (site : Setup) (history : List Entry) (planned : Planned) : Ty
 pub record HasRoomFor (view : View) (planned : Planned) : Type 0 where
   pub entry : 0 < view.room
   pub serials : length planned.entry.drawn ≤ view.serial_room
-  pub draw : length (drawn_by_plan planned.draw) ≤ view.pool_room
+  pub draw : HasRoomToDraw view.pool planned.draw
 
 -- the request becomes this entry, which draws from these words
 pub record Makes (site : Setup) (history : List Entry) (worker : ℕ) (ask : Ask) (stamp : ℕ) (taken : List ℕ) (planned : Planned) : Type 0 where

@@ -1,5 +1,6 @@
 -- What contracts see of a site.
 use Rattle.std.specs.Prelude.{ℕ, List}
+use Rattle.serial_pool.specs.Held.{PoolView}
 use Rattle.deed_words.specs.Setups.{Setup}
 use Rattle.deed_words.specs.World.{World}
 use Rattle.deed_words.specs.declared.entry.Entry.{Entry}
@@ -10,10 +11,10 @@ pub record Held : Type 0 where
   pub batch_room : ℕ
   pub serial_room : ℕ
 
--- a site: its setup, its history, and for how many more entries and serials there is room, in its rows and in its pool
+-- a site: its setup, its history, for how many more entries and serials there is room, and its pool
 pub record View : Type 0 where
   pub setup : Setup
   pub history : List Entry
   pub room : ℕ
   pub serial_room : ℕ
-  pub pool_room : ℕ
+  pub pool : PoolView

@@ -6,7 +6,7 @@ ghost use Rattle.deed_words.specs.declared.deed.Deed.TheVariants.{Order, Draw};
 ghost use Rattle.deed_words.specs.declared.reply.Reply.TheVariants.{Accepted, Refused};
 ghost use Rattle.deed_words.specs.declared.reply.Answer.TheVariants.{Listed};
 ghost use Rattle.site_core.specs.declared.planned.PlanFault.{PlanFault};
-ghost use Rattle.site_core.specs.Draws.{drawn_in, drawn_by_plan};
+ghost use Rattle.site_core.specs.Draws.{drawn_in, HasRoomToDraw};
 ghost use Rattle.site_core.specs.DrawEnds.{is_words_fault};
 ghost use Rattle.site_core.specs.Decisions.{Decides, IsDecided};
 ghost use Rattle.site_core.specs.Plans.{is_built};
@@ -98,7 +98,7 @@ fn decide_draw<W: Words>(
     ensures decides { Takes (W.words_left words.old) (W.words_left words.new) (λ taken. Decides setup.now lists.now.world station (Draw name.now count) taken result) }
     ensures cause { HasCauseIf (is_words_fault result) (W.word_faults words.old) (W.word_faults words.new) }
     ensures drawn { pool.new.drawn ≡ pool.old.drawn }
-    ensures room { IfOk result (λ decision. length (drawn_by_plan decision.draw) ≤ pool.new.room) }
+    ensures room { IfOk result (λ decision. HasRoomToDraw pool.new decision.draw) }
 {
     if let Some(rule) = draw_rule(setup, lists, station, name, count) {
         return Ok(refused(alloc, rule));
@@ -125,7 +125,7 @@ pub(crate) fn decide<W: Words>(
     ensures decides { Takes (W.words_left words.old) (W.words_left words.new) (λ taken. Decides setup.now lists.now.world station deed.now taken result) }
     ensures cause { HasCauseIf (is_words_fault result) (W.word_faults words.old) (W.word_faults words.new) }
     ensures drawn { pool.new.drawn ≡ pool.old.drawn }
-    ensures room { IfOk result (λ decision. length (drawn_by_plan decision.draw) ≤ pool.new.room) }
+    ensures room { IfOk result (λ decision. HasRoomToDraw pool.new decision.draw) }
 {
     match deed {
         Deed::Order(row) => Ok(decide_order(alloc, setup, lists, station, row)),

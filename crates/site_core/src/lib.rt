@@ -8,9 +8,7 @@ mod order;
 mod planned;
 mod rows;
 mod site;
-mod stations;
 
 pub use order::is_built;
 pub use planned::{PlanFault, Planned};
 pub use site::Site;
-pub use stations::station_of;

@@ -5,7 +5,7 @@ ghost use Rattle.outside.specs.Devices.{Takes};
 ghost use Rattle.deed_words.specs.History.{own, last_stamp, world_of, IsLawful};
 ghost use Rattle.deed_words.specs.Proper.{IsProperAsk, IsProperEntry};
 ghost use Rattle.deed_words.specs.ProperWorlds.{IsProperWorld};
-ghost use Rattle.site_core.specs.Draws.{drawn_by_plan, MayCommit};
+ghost use Rattle.site_core.specs.Draws.{drawn_by_plan, MayCommit, HasRoomToDraw};
 ghost use Rattle.site_core.specs.DrawEnds.{is_words_fault};
 ghost use Rattle.site_core.specs.Plans.{is_built, Plans, IsNext, HasRoomFor};
 
@@ -43,7 +43,7 @@ impl Model for Site {
       history = s.history.items;
       room = min (vec_capacity s.history - vec_len s.history) s.lists.batch_room;
       serial_room = s.lists.serial_room;
-      pool_room = s.pool.room;
+      pool = s.pool;
     } };
 
     ghost invariant = { λ s. IsLawful s.setup s.history.items × (s.lists.world ≡ world_of s.setup s.history.items) × (s.pool.drawn ≡ drawn_in s.lists.world) × All IsProperEntry s.history.items };
@@ -141,7 +141,7 @@ impl Site {
         ensures same { (self.new.setup ≡ self.old.setup) × (self.new.history ≡ self.old.history) }
         ensures room { OnOk result (0 < self.new.room) }
         ensures serial_room { OnOk result (serials ≤ self.new.serial_room) }
-        ensures pool_room { self.new.pool_room ≡ self.old.pool_room }
+        ensures pool { self.new.pool ≡ self.old.pool }
     {
         self.lists.ready(serials)?;
         match self.history.reserve(1) {
@@ -187,11 +187,13 @@ fn planned(worker: u8, ask: Ask, stamp: u64, decision: Decision) -> Planned
 /// Draws what was planned, if there is a draw.
 fn commit_draw(pool: &mut Pool, draw: Option<DrawPlan>)
     requires may { MayCommit pool.old.drawn draw }
-    requires room { length (drawn_by_plan draw) ≤ pool.old.room }
+    requires room { HasRoomToDraw pool.old draw }
     ensures { pool.new.drawn ≡ pool.old.drawn ++ drawn_by_plan draw }
 {
     match draw {
-        Some(plan) => pool.commit_draw(plan),
+        Some(plan) => {
+            let _done = pool.commit_draw(plan);
+        }
         None => {}
     }
 }

@@ -3,7 +3,7 @@ use Rattle.std.proofs.Common.{◌≡◌, ◌==◌, ℕ, Bool, true, false, List,
 use Rattle.std.specs.List.{list_all}
 use Rattle.station_http.specs.declared.fields.BodyLength.{BodyLength}
 use Rattle.station_http.specs.declared.fields.BodyLength.TheVariants.{Absent, Bad, Said}
-use Rattle.http_routes.specs.Numbers.{number_in}
+use Rattle.numerals.specs.Numbers.{number_in}
 use Rattle.station_http.specs.Plans.{FieldText, has_name, values_of, length_of, length_by, says, is_that}
 use Rattle.station_http.specs.Fields.{value_with, length_with}
 

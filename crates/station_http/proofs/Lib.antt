@@ -16,3 +16,4 @@ pub mod Fronts
 mod Idles
 mod Calls
 mod Decided
+mod Askings

@@ -3,7 +3,7 @@ use Rattle.std.specs.Prelude.{◌==◌, ℕ, Bool, false, List, [], ◌∷◌, O
 use Rattle.station_http.specs.declared.fields.BodyLength.{BodyLength}
 use Rattle.station_http.specs.declared.fields.BodyLength.TheVariants.{Absent, Bad, Said}
 use Rattle.httparse.specs.Grammar.{is_ows}
-use Rattle.http_routes.specs.Numbers.{number_in}
+use Rattle.numerals.specs.Numbers.{number_in}
 use Rattle.station_http.specs.Plans.{FieldText, has_name}
 
 abbrev pub value_with : BodyLength → Option ℕ → BodyLength

@@ -9,6 +9,7 @@ pub mod Reading
 pub mod Talk
 pub mod Gives
 pub mod Waiting
+pub mod Asking
 pub mod Steps
 pub mod Refusals
 pub mod Fields

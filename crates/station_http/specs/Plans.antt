@@ -10,7 +10,7 @@ use Rattle.station_http.specs.declared.fields.BodyLength.{BodyLength}
 use Rattle.station_http.specs.declared.fields.BodyLength.TheVariants.{Absent, Bad, Said}
 use Rattle.station_http.specs.declared.plan.Plan.{Plan}
 use Rattle.station_http.specs.Limits.{body_limit}
-use Rattle.http_routes.specs.Numbers.{number_in}
+use Rattle.numerals.specs.Numbers.{number_in}
 use Rattle.station_http.specs.Targets.{target_of}
 
 -- a field: its name, and its value without the white space around it

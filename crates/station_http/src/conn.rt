@@ -1,12 +1,13 @@
 //! Reading requests from a source, in pieces of any size.
-ghost use Rattle.std.specs.Prelude.{◌≡◌, ◌⊎◌, ◌<◌, ◌≤◌, ◌+◌, ◌-◌, min, [], ◌++◌, length, IfOk, OnOk, IfErr, IfSome, true, false, take, drop, Option, if◌then◌else◌};
+ghost use Rattle.std.specs.Prelude.{◌≡◌, ◌⊎◌, ◌<◌, ◌≤◌, ◌+◌, ◌-◌, min, [], ◌∷◌, ◌++◌, length, IfOk, OnOk, IfErr, IfSome, true, false, take, drop, Option, if◌then◌else◌};
 ghost use Rattle.std.specs.Io.KnownBytes.{IsAtEnd};
 ghost use Rattle.outside.specs.Causes.{HasCauseIf, HasCause};
-ghost use Rattle.outside.specs.Devices.{Takes, TakesPiece, Puts};
+ghost use Rattle.outside.specs.Devices.{Takes, TakesPiece, ask, asked_more, came_into, Asks, Puts};
 ghost use Rattle.station_http.specs.Lines.{blank as blank_of};
 ghost use Rattle.station_http.specs.Puts.{IsPutOf};
 ghost use Rattle.station_http.specs.Limits.{head_limit, session_limit};
 ghost use Rattle.station_http.specs.Waiting.{IsWaiting, IsDecided, HasCalled, IsFurther, is_ready};
+ghost use Rattle.station_http.specs.Asking.{AsksAll, AsksEmpty, known_after};
 
 use crate::asked::Asked;
 use crate::fault::HttpFault;
@@ -55,7 +56,7 @@ impl Conn {
     ghost use Rattle.station_http.specs.Gives.{GivesAt, is_read_fault};
     ghost use Rattle.station_http.specs.declared.stage.Stage.TheVariants.{Open};
     ghost use Rattle.station_http.specs.declared.fault.HttpFault.TheVariants.{SessionLong};
-    ghost use Rattle.station_http.specs.Steps.{Fills, MovesTo, GivesHead, GivesBody, Reads, with_pending};
+    ghost use Rattle.station_http.specs.Steps.{Skips, Fills, MovesTo, GivesHead, GivesBody, Reads, with_pending};
     ghost use Rattle.station_http.specs.Refusals.{is_refusal};
     ghost use Rattle.station_http.specs.Gives.{is_full};
     ghost use Rattle.station_http.specs.Answers.{is_answered, answer_text};
@@ -84,9 +85,13 @@ impl Conn {
     ///
     /// Each `HttpFault` comes exactly where its cause holds and none before it, in the order of its variants; `Memory`
     /// may come at any place. After a fault each later call answers `Spent`. In all it takes at most 2^36 bytes.
+    ///
+    /// It asks the source each time for all that the buffer has room for and that may still be taken: where none is
+    /// pending, for 8,192 bytes, or for all that are left up to 2^36.
     pub fn next<S: Source>(&mut self, source: &mut S) -> Result<Option<Asked>, HttpFault>
         ensures answer { Takes (S.left source.old) (S.left source.new) (λ bytes. GivesAt self.old.stage self.old bytes result self.new (IsAtEnd (S.left source.new))) }
         ensures cause { HasCauseIf (is_read_fault result) (S.read_faults source.old) (S.read_faults source.new) }
+        ensures asks { Asks (S.asks source.old) (S.asks source.new) (AsksAll self.old.taken self.old.pending self.new.taken) }
         ensures beside { S.beside_takes source.new ≡ S.beside_takes source.old }
         ensures within { self.new.taken ≤ session_limit }
         ensures held { length self.new.pending ≤ head_limit }
@@ -101,6 +106,7 @@ impl Conn {
     fn advance<S: Source>(&mut self, source: &mut S) -> Result<Option<Asked>, HttpFault>
         ensures answer { Takes (S.left source.old) (S.left source.new) (λ bytes. GivesAt self.old.stage self.old bytes result self.new (IsAtEnd (S.left source.new))) }
         ensures cause { HasCauseIf (is_read_fault result) (S.read_faults source.old) (S.read_faults source.new) }
+        ensures asks { Asks (S.asks source.old) (S.asks source.new) (AsksAll self.old.taken self.old.pending self.new.taken) }
         ensures beside { S.beside_takes source.new ≡ S.beside_takes source.old }
         ensures within { self.new.taken ≤ session_limit }
         ensures held { length self.new.pending ≤ head_limit }
@@ -163,6 +169,7 @@ impl Conn {
     fn read<S: Source>(&mut self, source: &mut S) -> Result<Option<Asked>, HttpFault>
         ensures answer { Takes (S.left source.old) (S.left source.new) (λ bytes. (self.new.taken ≡ self.old.taken + length bytes) × Reads (self.old.pending ++ bytes) result self.new (IsAtEnd (S.left source.new))) }
         ensures cause { HasCauseIf (is_read_fault result) (S.read_faults source.old) (S.read_faults source.new) }
+        ensures asks { Asks (S.asks source.old) (S.asks source.new) (AsksAll self.old.taken self.old.pending self.new.taken) }
         ensures beside { S.beside_takes source.new ≡ S.beside_takes source.old }
         ensures within { self.new.taken ≤ session_limit }
         ensures stage { self.new.stage ≡ self.old.stage }
@@ -210,6 +217,7 @@ impl Conn {
     fn need_head<S: Source>(&mut self, source: &mut S) -> Result<Option<usize>, HttpFault>
         ensures head { Takes (S.left source.old) (S.left source.new) (λ bytes. (self.new.taken ≡ self.old.taken + length bytes) × GivesHead (self.old.pending ++ bytes) result self.new (IsAtEnd (S.left source.new))) }
         ensures cause { HasCauseIf (is_read_fault result) (S.read_faults source.old) (S.read_faults source.new) }
+        ensures asks { Asks (S.asks source.old) (S.asks source.new) (λ asks. AsksAll self.old.taken self.old.pending self.new.taken asks × Skips (known_after self.old.pending asks) self.new.pending) }
         ensures beside { S.beside_takes source.new ≡ S.beside_takes source.old }
         ensures within { self.new.taken ≤ session_limit }
         ensures held { length self.new.pending ≤ head_limit }
@@ -285,6 +293,7 @@ impl Conn {
         requires { head ≤ head_limit }
         ensures body { Takes (S.left source.old) (S.left source.new) (λ bytes. (self.new.taken ≡ self.old.taken + length bytes) × GivesBody head count (self.old.pending ++ bytes) result self.new (IsAtEnd (S.left source.new))) }
         ensures cause { HasCauseIf (is_read_fault result) (S.read_faults source.old) (S.read_faults source.new) }
+        ensures asks { Asks (S.asks source.old) (S.asks source.new) (AsksEmpty self.old.taken self.new.taken) }
         ensures beside { S.beside_takes source.new ≡ S.beside_takes source.old }
         ensures within { self.new.taken ≤ session_limit }
         ensures stage { self.new.stage ≡ self.old.stage }
@@ -333,6 +342,7 @@ impl Conn {
         requires below { self.old.taken < session_limit }
         ensures bytes { Takes (S.left source.old) (S.left source.new) (λ bytes. Fills self.old bytes result self.new (IsAtEnd (S.left source.new))) }
         ensures cause { HasCause (S.read_faults source.old) (S.read_faults source.new) result }
+        ensures asked { S.asks source.new ≡ asked_more (S.asks source.old) (ask (min (session_limit - self.old.taken) (head_limit - length self.old.pending)) (drop (length self.old.pending) self.new.pending) ∷ []) }
         ensures beside { S.beside_takes source.new ≡ S.beside_takes source.old }
         ensures within { self.new.taken ≤ session_limit }
         ensures held { length self.new.pending ≤ head_limit }
@@ -350,8 +360,7 @@ impl Conn {
     }
 }
 
-/// How many bytes the next call asks for: all that there is room for, and that may still be taken. Where none is pending,
-/// these are 8,192, or all that are left up to 2^36.
+/// How many bytes the next call asks for: all that there is room for, and that may still be taken.
 fn room(taken: u64, held: usize) -> usize
     requires { (taken ≤ session_limit) × (held ≤ head_limit) }
     ensures { result ≡ min (session_limit - taken) (head_limit - held) }
@@ -394,6 +403,7 @@ fn take_behind<S: Source>(
     ensures bound { IfOk result (λ n. n ≤ room) }
     ensures front { take at piece.new ≡ take at piece.old }
     ensures bytes { TakesPiece (S.left source.old) (S.left source.new) result (drop at piece.new) }
+    ensures asked { S.asks source.new ≡ asked_more (S.asks source.old) (ask room (came_into (drop at piece.new) result) ∷ []) }
     ensures cause { HasCause (S.read_faults source.old) (S.read_faults source.new) result }
     ensures beside { S.beside_takes source.new ≡ S.beside_takes source.old }
 {

@@ -6,8 +6,8 @@ ghost use Rattle.httparse.specs.Grammar.{trim_ows, skip_ows, is_ows};
 ghost use Rattle.station_http.specs.Plans.{has_name, values_of, length_of, has_close, is_close, is_last};
 ghost use Rattle.station_http.specs.Fields.{length_with, value_with, begins_ows};
 
-use http_routes::number;
 use httparse::spans::HeaderSpan;
+use numerals::number;
 
 /// What the `content-length` fields say.
 #[derive(Clone, Copy, Debug, PartialEq, Eq)]

@@ -1,5 +1,5 @@
 //! Worked sessions: the bytes of requests, and those of answers.
-ghost use Rattle.std.specs.Prelude.{Some, []};
+ghost use Rattle.std.specs.Prelude.{Some};
 
 use crate::{Asked, Conn, HttpFault, Kind, Target, all_of, put_answer};
 use gs1_keys::Text20;
@@ -28,23 +28,6 @@ impl Source for DropsSource<'_> {
                 Ok(1)
             }
         }
-    }
-}
-
-/// A source that is at its end, and keeps how much was asked of it.
-#[derive(Drop)]
-struct Measure {
-    asked: usize,
-}
-
-impl Source for Measure {
-    ghost left = { λ _. Some [] };
-
-    ghost read_faults = { λ _. 0 };
-
-    fn take(&mut self, piece: &mut [u8]) -> Result<usize, Failed> {
-        self.asked = piece.len();
-        Ok(0)
     }
 }
 
@@ -177,15 +160,6 @@ fn each_end(rt: HostRuntime) -> Result<(), Fail> {
         end_after(&rt, rt.alloc(), 1, b"GET /batches/B5 HTTP/1.0\n\nGET"),
         Ok(())
     );
-    Ok(())
-}
-
-#[test]
-fn much_is_asked_where_none_is_pending(rt: HostRuntime) -> Result<(), Fail> {
-    let mut source = Measure { asked: 0 };
-    let mut conn = Conn::new(rt.alloc()).expect(&rt, "memory");
-    assert!(rt; conn.next(&mut source).is_ok());
-    assert_eq!(rt; source.asked, 8192);
     Ok(())
 }
 

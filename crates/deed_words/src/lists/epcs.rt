@@ -1,8 +1,6 @@
 //! Lists of names.
-ghost use Rattle.std.specs.Prelude.{◌≡◌, ◌<◌, [], ◌∷◌, ◌++◌, not, filter, length, slice_index_or, is_ok, if◌then◌else◌, IfOk};
-ghost use Rattle.deed_words.specs.Names.{is_among};
+ghost use Rattle.std.specs.Prelude.{◌≡◌, ◌<◌, [], ◌∷◌, ◌++◌, length, slice_index_or, is_ok, if◌then◌else◌, IfOk};
 
-use crate::names::is_one_of;
 use epc_urn::Epc;
 use gs1_keys::Memory;
 use std::alloc::Global;
@@ -21,13 +19,6 @@ impl Model for Epcs {
     ghost Value = { List Epc };
 
     ghost view = { λ s. s.items.items };
-}
-
-/// Leaves names out of a list.
-fn keep_others(items: &mut Vec<Epc>, names: &[Epc])
-    ensures { items.new.items ≡ filter (λ name. not (is_among names.now name)) items.old.items }
-{
-    items.retain(|name| !is_one_of(name, names));
 }
 
 impl Epcs {
@@ -79,11 +70,18 @@ impl Epcs {
         self.items.extend_from_slice(names).map_err(|_| Memory)
     }
 
-    /// Leaves these names out.
-    pub fn leave_out(&mut self, names: &[Epc])
-        ensures { self.new ≡ filter (λ name. not (is_among names.now name)) self.old }
+    /// The list of these names, which takes no memory.
+    pub fn from_vec(items: Vec<Epc>) -> Self
+        ensures { result ≡ items.items }
     {
-        keep_others(&mut self.items, names);
+        Epcs { items }
+    }
+
+    /// The names, which takes no memory.
+    pub fn into_vec(self) -> Vec<Epc>
+        ensures { result.items ≡ self }
+    {
+        self.items
     }
 
     /// An equal list.

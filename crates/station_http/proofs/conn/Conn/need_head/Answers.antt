@@ -13,6 +13,7 @@ use Rattle.station_http.specs.Waiting.{is_ready}
 use Rattle.station_http.proofs.Idles.{idle_skipped, idle_returns, not_ready, not_both}
 use Rattle.station_http.proofs.Going.{start, passed, more_came, none_came, failed}
 use Rattle.station_http.proofs.Ends.{full_is, full_not, full_end, wrong_end, cut_end, none_end}
+use Rattle.station_http.proofs.Askings.{no_head_asks, head_asks_skipped, head_asks_more, head_asks_failed}
 use Rattle.station_http.proofs.conn.Conn.need_head.Goals as goal
 
 pub returns-in-Some-clause-head : goal.returns-in-Some-clause-head
@@ -101,11 +102,12 @@ pieces-preserved g c =
       sofar = more_came _ _ _ c.args.self.now mid c.fill.new.self c.in-Ok.count b.0 r0.sofar b.1 b.2.0 b.2.1 b.2.2 b.2.3;
       faults = c.in-Ok.ensures.cause.kept ∙ c.pieces.invariant.faults;
       idle = inr not;
+      asks = head_asks_more _ _ _ c.args.self.now mid c.fill.new.self c.in-Ok.count b.0 (head_asks_skipped _ _ c.args.self.now c.pieces.self mid c.pieces.invariant.asks c.skip_blank.ensures) r0.none none c.fill.ensures.asked b.2.0 b.2.1 b.2.2;
       beside = c.in-Ok.ensures.beside ∙ c.pieces.invariant.beside;
     }
 
 pub pieces-init : goal.pieces-init
-pieces-init g c = record { sofar = start _ c.args.self.now; faults = refl; idle = inl (refl, refl, refl); beside = refl }
+pieces-init g c = record { sofar = start _ c.args.self.now; faults = refl; idle = inl (refl, refl, refl); asks = no_head_asks _ c.args.self.now; beside = refl }
 
 pub returns-in-Some-clause-idle : goal.returns-in-Some-clause-idle
 returns-in-Some-clause-idle g c ready =
@@ -145,3 +147,33 @@ returns-then-count-eq0-clause-idle g c ready =
     let short : length mid.pending < head_limit = omega (arith, c.held-held.ensures) in
     let not : is_ready c.args.self.now ≡ false = not_ready _ c.args.source.now c.pieces.source c.args.self.now mid (idle_skipped _ c.args.source.now c.pieces.source c.args.self.now c.pieces.self c.skip_blank.new.self c.pieces.invariant.idle c.skip_blank.ensures) none full short in
     absurd (not_both (is_ready c.args.self.now) ready not)
+
+pub returns-in-Some-clause-asks : goal.returns-in-Some-clause-asks
+returns-in-Some-clause-asks g c = head_asks_skipped _ _ c.args.self.now c.pieces.self c.skip_blank.new.self c.pieces.invariant.asks c.skip_blank.ensures
+
+pub returns-then-self-eq-SESSION_LIMIT-clause-asks : goal.returns-then-self-eq-SESSION_LIMIT-clause-asks
+returns-then-self-eq-SESSION_LIMIT-clause-asks g c = head_asks_skipped _ _ c.args.self.now c.pieces.self c.skip_blank.new.self c.pieces.invariant.asks c.skip_blank.ensures
+
+pub returns-then-held-eq-HEAD_LIMIT-clause-asks : goal.returns-then-held-eq-HEAD_LIMIT-clause-asks
+returns-then-held-eq-HEAD_LIMIT-clause-asks g c = head_asks_skipped _ _ c.args.self.now c.pieces.self c.skip_blank.new.self c.pieces.invariant.asks c.skip_blank.ensures
+
+pub returns-in_default-fill-clause-asks : goal.returns-in_default-fill-clause-asks
+returns-in_default-fill-clause-asks g c =
+    let mid = c.skip_blank.new.self in
+    let r0 = passed _ _ c.args.self.now c.pieces.self mid c.pieces.invariant.sofar c.skip_blank.ensures in
+    let b = c.in_default-fill.ensures.bytes in
+    head_asks_failed _ _ _ c.args.self.now mid c.fill.new.self (head_asks_skipped _ _ c.args.self.now c.pieces.self mid c.pieces.invariant.asks c.skip_blank.ensures) r0.none (sym c.head_here.ensures ∙ c.in_default.is) c.fill.ensures.asked b.2.1
+
+pub returns-then-held-eq0-clause-asks : goal.returns-then-held-eq0-clause-asks
+returns-then-held-eq0-clause-asks g c =
+    let mid = c.skip_blank.new.self in
+    let r0 = passed _ _ c.args.self.now c.pieces.self mid c.pieces.invariant.sofar c.skip_blank.ensures in
+    let b = c.in-Ok.ensures.bytes in
+    head_asks_more _ _ _ c.args.self.now mid c.fill.new.self c.in-Ok.count b.0 (head_asks_skipped _ _ c.args.self.now c.pieces.self mid c.pieces.invariant.asks c.skip_blank.ensures) r0.none (sym c.head_here.ensures ∙ c.in_default.is) c.fill.ensures.asked b.2.0 b.2.1 b.2.2
+
+pub returns-then-count-eq0-clause-asks : goal.returns-then-count-eq0-clause-asks
+returns-then-count-eq0-clause-asks g c =
+    let mid = c.skip_blank.new.self in
+    let r0 = passed _ _ c.args.self.now c.pieces.self mid c.pieces.invariant.sofar c.skip_blank.ensures in
+    let b = c.in-Ok.ensures.bytes in
+    head_asks_more _ _ _ c.args.self.now mid c.fill.new.self c.in-Ok.count b.0 (head_asks_skipped _ _ c.args.self.now c.pieces.self mid c.pieces.invariant.asks c.skip_blank.ensures) r0.none (sym c.head_here.ensures ∙ c.in_default.is) c.fill.ensures.asked b.2.0 b.2.1 b.2.2

@@ -1,4 +1,4 @@
-use Rattle.std.proofs.Common.{◌≡◌, ◌+◌, ℕ, List, ◌++◌, length, drop, take, Result, Ok, Err, sym, ◌∙◌, ap, subst, arith}
+use Rattle.std.proofs.Common.{◌≡◌, ◌+◌, ℕ, List, ◌++◌, length, drop, take, Result, Ok, Err, sym, refl, ◌∙◌, ap, subst, arith}
 use Rattle.std.specs.Io.KnownBytes.{IsAtEnd}
 use Rattle.std.proofs.KnownBytes.{Consumes-trans}
 use Rattle.std.proofs.lemmas.List.{take_at}
@@ -11,6 +11,7 @@ use Rattle.station_http.specs.Refusals.{is_refusal}
 use Rattle.station_http.specs.Steps.{GivesBody}
 use Rattle.station_http.proofs.Requests.{head_read, head_length, both, refused, told_fault, body_fault, body_whole, after_body}
 use Rattle.station_http.proofs.Idles.{there_ready, there_body, IsBodyThere}
+use Rattle.station_http.proofs.Askings.{asks_of_head, asks_of_both}
 use Rattle.station_http.proofs.conn.Conn.read.Goals as goal
 
 pub take_plan-requires : goal.take_plan-requires
@@ -135,3 +136,34 @@ returns-in-Ok-target-clause-idle g c there =
     let r = head_read _ _ c.args.self.now mid n c.in-Ok-Some.field-0 (IsAtEnd (g.S.Source.left c.need_head.new.source)) (Ok c.in-Ok.plan) c.in-Ok-Some.field-0-is c.in-Ok-Some.ensures.head c.need_head.ensures.held c.in-Ok.ensures.plan in
     let body = there_body c.args.self.now mid n c.in-Ok.plan there head.1 head.2 c.need_head.ensures.held r.end c.in-Ok.ensures.plan in
     c.need_body.ensures.idle (subst (λ (r : Reading). IsBodyThere r c.in-Ok.plan.body) (sym c.take_plan.ensures.after) body) ∙ head.0
+
+pub returns-in-Err-clause-asks : goal.returns-in-Err-clause-asks
+returns-in-Err-clause-asks g c = asks_of_head _ _ c.args.self.now c.need_head.new.self c.need_head.new.self.taken c.need_head.ensures.asks refl
+
+pub returns-in-Ok-None-clause-asks : goal.returns-in-Ok-None-clause-asks
+returns-in-Ok-None-clause-asks g c = asks_of_head _ _ c.args.self.now c.need_head.new.self c.need_head.new.self.taken c.need_head.ensures.asks refl
+
+pub returns-in-Err-take_plan-clause-asks : goal.returns-in-Err-take_plan-clause-asks
+returns-in-Err-take_plan-clause-asks g c =
+    asks_of_head _ _ c.args.self.now c.need_head.new.self c.take_plan.new.self.taken c.need_head.ensures.asks (ap (λ (r : Reading). r.taken) c.take_plan.ensures.after)
+
+pub returns-in-Err-need_body-clause-asks : goal.returns-in-Err-need_body-clause-asks
+returns-in-Err-need_body-clause-asks g c =
+    let mid = c.need_head.new.self in
+    let n = c.in-Ok-Some.head in
+    let r = head_read _ _ c.args.self.now mid n c.in-Ok-Some.field-0 (IsAtEnd (g.S.Source.left c.need_head.new.source)) (Ok c.in-Ok.plan) c.in-Ok-Some.field-0-is c.in-Ok-Some.ensures.head c.need_head.ensures.held c.in-Ok.ensures.plan in
+    asks_of_both _ _ _ c.args.self.now mid c.take_plan.new.self c.need_body.new.self n c.need_head.ensures.asks r.none r.end (ap (λ (r : Reading). r.taken) c.take_plan.ensures.after) c.need_body.ensures.asks
+
+pub returns-in-Err-target-clause-asks : goal.returns-in-Err-target-clause-asks
+returns-in-Err-target-clause-asks g c =
+    let mid = c.need_head.new.self in
+    let n = c.in-Ok-Some.head in
+    let r = head_read _ _ c.args.self.now mid n c.in-Ok-Some.field-0 (IsAtEnd (g.S.Source.left c.need_head.new.source)) (Ok c.in-Ok.plan) c.in-Ok-Some.field-0-is c.in-Ok-Some.ensures.head c.need_head.ensures.held c.in-Ok.ensures.plan in
+    asks_of_both _ _ _ c.args.self.now mid c.take_plan.new.self c.need_body.new.self n c.need_head.ensures.asks r.none r.end (ap (λ (r : Reading). r.taken) c.take_plan.ensures.after) c.need_body.ensures.asks
+
+pub returns-in-Ok-target-clause-asks : goal.returns-in-Ok-target-clause-asks
+returns-in-Ok-target-clause-asks g c =
+    let mid = c.need_head.new.self in
+    let n = c.in-Ok-Some.head in
+    let r = head_read _ _ c.args.self.now mid n c.in-Ok-Some.field-0 (IsAtEnd (g.S.Source.left c.need_head.new.source)) (Ok c.in-Ok.plan) c.in-Ok-Some.field-0-is c.in-Ok-Some.ensures.head c.need_head.ensures.held c.in-Ok.ensures.plan in
+    asks_of_both _ _ _ c.args.self.now mid c.take_plan.new.self c.need_body.new.self n c.need_head.ensures.asks r.none r.end (ap (λ (r : Reading). r.taken) c.take_plan.ensures.after) c.need_body.ensures.asks

@@ -1,0 +1,9 @@
+pub mod Lists
+pub mod Named
+pub mod Hearing
+pub mod Walked
+pub mod Owing
+pub mod Found
+pub mod Bridge
+pub mod Reckoned
+pub mod Findings

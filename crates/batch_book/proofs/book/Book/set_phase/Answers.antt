@@ -1,0 +1,10 @@
+use Rattle.std.proofs.Common.{◌≡◌, List, length, ap, ◌∙◌, arith}
+use Rattle.deed_words.specs.declared.world.Batch.{Batch}
+use Rattle.batch_book.specs.Batches.{with_phase}
+use Rattle.batch_book.proofs.Named.{length_changed}
+use Rattle.batch_book.proofs.book.Book.set_phase.Goals as goal
+
+pub invariant_of-self : goal.invariant_of-self
+invariant_of-self c = λ k d l.
+    let n : length c.set_phase.new.self.batches ≡ length c.self.inside.orders.batches = ap (λ (xs : List Batch). length xs) c.set_phase.ensures.batches ∙ length_changed (with_phase c.args.phase) c.self.inside.orders.batches c.batch.inside.0 in
+    omega (arith, n, c.self.invariant k d l)

@@ -1,0 +1,5 @@
+pub mod Batches
+pub mod Closing
+pub mod Content
+pub mod Ledgers
+pub mod Said

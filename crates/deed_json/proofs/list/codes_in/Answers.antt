@@ -1,0 +1,34 @@
+use Rattle.std.proofs.Common.{◌≡◌, ◌∙◌, ◌+◌, ◌<◌, ◌≤◌, ◌++◌, ◌∷◌, [], length, get_or, inr, arith, rules, Ok, Err}
+use Rattle.std.proofs.lemmas.List.{length-append}
+use Rattle.std.proofs.lemmas.Result.{err_from_is_err_and}
+use Rattle.serde_json.specs.View.{view}
+use Rattle.deed_json.specs.Deeds.{code_entry}
+use Rattle.deed_json.proofs.Entries.{all_dated, code_more, code_fault, code_end}
+use Rattle.deed_json.proofs.list.codes_in.Goals as goal
+
+pub returns-in_err-code-clause-is : goal.returns-in_err-code-clause-is
+returns-in_err-code-clause-is c =
+    let h : c.loop-entry.entry-index < length c.args.entries.now = omega arith in
+    let at : c.len.result ≡ length c.loop-entry.codes = search rules in
+    let is : code_entry c.len.result (view (get_or c.args.entries.now c.loop-entry.entry-index c.entry-item.result)) ≡ Err c.in_err-code.field-0.0 = rw (← c.entry-item.is) c.in_err-code.ensures.is in
+    let p = err_from_is_err_and c.from_residual.result c.from_residual.ensures.1 in
+    rw (p.1, p.2) (inr (c.loop-entry.invariant.due ∙ code_fault _ _ _ _ _ _ h at is))
+
+pub loop-entry-preserved : goal.loop-entry-preserved
+loop-entry-preserved c =
+    let h : c.loop-entry.entry-index < length c.args.entries.now = omega arith in
+    let at : c.len.result ≡ length c.loop-entry.codes = search rules in
+    let is : code_entry c.len.result (view (get_or c.args.entries.now c.loop-entry.entry-index c.entry-item.result)) ≡ Ok c.in_ok-code.code = rw (← c.entry-item.is) (search rules) in
+    let items : c.push.new.self ≡ c.loop-entry.codes ++ c.in_ok-code.code ∷ [] = search rules in
+    let size = c.loop-entry.invariant.size in
+    let one : length (c.loop-entry.codes ++ c.in_ok-code.code ∷ []) ≡ length c.loop-entry.codes + 1 = length-append c.loop-entry.codes (c.in_ok-code.code ∷ []) in
+    record {
+      due = rw items (c.loop-entry.invariant.due ∙ code_more _ _ _ _ _ _ h at is);
+      size = rw (items, one) (omega (arith, size));
+      proper = rw items (all_dated c.loop-entry.codes c.in_ok-code.code c.loop-entry.invariant.proper c.in_ok-code.ensures.proper);
+    }
+
+pub returns-clause-is : goal.returns-clause-is
+returns-clause-is c =
+    let h : length c.args.entries.now ≤ c.loop-entry.entry-index = omega arith in
+    c.loop-entry.invariant.due ∙ code_end _ _ _ h

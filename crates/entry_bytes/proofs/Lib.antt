@@ -1,0 +1,13 @@
+pub mod Loop
+pub mod Putting
+pub mod Full
+pub mod Codec
+pub mod Stops
+pub mod Fronts
+pub mod Spelled
+pub mod Groups
+pub mod Sizes
+pub mod SiteSpelled
+pub mod SiteWhole
+pub mod SiteSizes
+pub mod SiteFronts

@@ -1,0 +1,18 @@
+use Rattle.std.proofs.Common.{inr}
+use Rattle.std.proofs.lemmas.Result.{err_from_is_err_and}
+use Rattle.entry_bytes.specs.Reading.{many}
+use Rattle.entry_bytes.specs.Fields.{row_at}
+use Rattle.entry_bytes.proofs.Loop.{goes_on, ends_due, is_done}
+use Rattle.entry_bytes.proofs.lists.many_rows.Goals as goal
+
+pub returns-in_err-item : goal.returns-in_err-item
+returns-in_err-item c =
+    let p = err_from_is_err_and c.from_residual.result c.from_residual.ensures.1 in
+    rw (p.1, p.2) (ends_due row_at c.loop.all c.args.count c.loop.counter c.loop.bytes c.in_err-item.field-0.0 (many row_at c.args.count c.args.bytes.now) c.loop-test.true (inr c.in_err-item.ensures) c.loop.invariant)
+
+pub loop-preserved : goal.loop-preserved
+loop-preserved c =
+    rw c.in_ok-push.ensures (goes_on row_at c.loop.all c.args.count c.loop.counter c.loop.bytes c.in_ok-item.item c.read_row.new.bytes (many row_at c.args.count c.args.bytes.now) c.loop-test.true c.in_ok-item.ensures c.loop.invariant)
+
+pub returns : goal.returns
+returns c = is_done row_at c.loop.all c.args.count c.loop.counter c.loop.bytes (many row_at c.args.count c.args.bytes.now) c.loop-test.false c.loop.invariant

@@ -1,0 +1,10 @@
+pub mod Reading
+pub mod Fields
+pub mod Deeds
+pub mod Spelling
+pub mod Kept
+pub mod Groups
+pub mod Answers
+pub mod SiteFields
+pub mod Sites
+pub mod Faults

@@ -1,0 +1,5 @@
+pub mod Changes
+pub mod Lent
+pub mod Places
+pub mod Tallies
+pub mod Walks

@@ -1,0 +1,11 @@
+pub mod Children
+pub mod Chains
+pub mod Links
+pub mod Many
+pub mod Numbers
+pub mod Packing
+pub mod Pairs
+pub mod Stepping
+pub mod Taking
+pub mod Trees
+pub mod Units

@@ -1,0 +1,19 @@
+use Rattle.std.proofs.Common.{List, [], ◌∷◌, ◌++◌, ap, sym, ◌∙◌, arith}
+use Rattle.request_memo.specs.declared.page.Told.{Told}
+use Rattle.request_memo.specs.Memos.{Pages}
+use Rattle.request_memo.proofs.Shelving.{part_set, told_at, room_at}
+use Rattle.request_memo.proofs.memo.Memo.push.Goals as goal
+
+pub returns-clause-told : goal.returns-clause-told
+returns-clause-told c =
+    let at = c.from.ensures ∙ c.station.view_is in
+    let page = told_at c.self.inside.pages.items c.args.self.now c.from.result c.args.station c.index_mut-page.result.now c.self.view_is at c.requires.station c.index_mut-page.ensures.value in
+    part_set (λ page. page.told.items) c.self.inside.pages.items c.args.self.now.told c.from.result c.args.station c.push.new.self _ (ap (λ (p : Pages). p.told) c.self.view_is) at
+    (c.push.ensures.told ∙ ap (λ (ts : List Told). ts ++ record { deed = c.args.deed; reply = c.args.reply } ∷ []) (sym page))
+
+pub returns-clause-room : goal.returns-clause-room
+returns-clause-room c =
+    let at = c.from.ensures ∙ c.station.view_is in
+    let page = room_at c.self.inside.pages.items c.args.self.now c.from.result c.args.station c.index_mut-page.result.now c.self.view_is at c.requires.station c.index_mut-page.ensures.value in
+    part_set (λ page. page.room) c.self.inside.pages.items c.args.self.now.room c.from.result c.args.station c.push.new.self _ (ap (λ (p : Pages). p.room) c.self.view_is) at
+    (omega (arith, c.push.ensures.room, page))
