@@ -1,15 +1,15 @@
 -- Names in place of numbers: the rows and units of a batch, and what they stand in.
-use Rattle.std.proofs.Common.{◌≡◌, ◌≢◌, ℕ, zero, suc, ◌<◌, ◌≤◌, ◌&&◌, Bool, true, false, eqb, cond, List, [], ◌∷◌, length, map, get_or, Option, Some, None, refl, sym, ap, subst, ◌∙◌, arith, All}
+use Rattle.std.proofs.Common.{◌≡◌, ℕ, suc, ◌<◌, ◌&&◌, Bool, true, false, eqb, cond, List, [], ◌∷◌, length, map, get_or, Some, None, refl, sym, ap, subst, ◌∙◌, arith, All}
 use Rattle.std.specs.Prelude.{find, option_map}
-use Rattle.std.specs.List.{IsDistinct, slice_get}
+use Rattle.std.specs.List.{slice_get}
 use Rattle.std.proofs.lemmas.List.{length-map, get_or-map, get_or_past}
 use Rattle.std.proofs.lemmas.Option.{slice_get_within}
 use Rattle.std.proofs.lemmas.Bool.{eq-eqb, ne_eqb, false_from_ne_true}
 use native.Mathlib.Decide.{dec_lt}
 use Rattle.epc_urn.specs.declared.epc.Epc.{Epc}
-use Rattle.epc_urn.specs.declared.epc.Epc.TheVariants.{Item, Unit as Box}
+use Rattle.epc_urn.specs.declared.epc.Epc.TheVariants.{Unit as Box}
 use Rattle.deed_words.specs.Names.{Text, same, same_name}
-use Rattle.deed_words.specs.World.{World, parent, rows_in, units_in, batch_of}
+use Rattle.deed_words.specs.World.{parent, rows_in, units_in, batch_of}
 use Rattle.deed_words.specs.declared.world.Batch.{Batch}
 use Rattle.deed_words.specs.declared.world.Row.{Row}
 use Rattle.deed_words.specs.declared.world.Container.{Container}

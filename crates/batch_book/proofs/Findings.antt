@@ -1,11 +1,11 @@
 -- The seven findings over the world by name, by what is found by number.
-use Rattle.std.proofs.Common.{◌≡◌, ℕ, ◌<◌, ◌&&◌, not, Bool, true, false, eqb, cond, List, [], ◌∷◌, length, map, get_or, Option, Some, None, refl, sym, ap, subst, ◌∙◌, arith, All}
+use Rattle.std.proofs.Common.{◌≡◌, ℕ, ◌<◌, ◌&&◌, not, true, false, eqb, List, [], ◌∷◌, length, map, Option, Some, None, refl, sym, ap, ◌∙◌, All}
 use Rattle.std.specs.Prelude.{find, option_map, option_and_then, is_none, nat_lt, if◌then◌else◌}
-use Rattle.std.specs.List.{slice_get, position, list_any}
-use Rattle.std.proofs.lemmas.List.{length-map, get_or-map}
+use Rattle.std.specs.List.{slice_get, position}
+use Rattle.std.proofs.lemmas.List.{get_or-map}
 use Rattle.std.proofs.lemmas.Option.{slice_get_within}
 use Rattle.epc_urn.specs.declared.epc.Epc.{Epc}
-use Rattle.epc_urn.specs.declared.epc.Epc.TheVariants.{Item, Unit as Box}
+use Rattle.epc_urn.specs.declared.epc.Epc.TheVariants.{Unit as Box}
 use Rattle.deed_words.specs.Names.{Text, same}
 use Rattle.deed_words.specs.Chain.{first, when, each, holds_of}
 use Rattle.deed_words.specs.Setups.{Setup}
@@ -29,8 +29,7 @@ use Rattle.pack_tree.specs.Packing.{IsThereIn}
 use Rattle.pack_tree.specs.Units.{code_in}
 use Rattle.pack_tree.specs.Units as units
 use Rattle.batch_book.specs.Batches.{name_in, AreApart, IsNamed}
-use Rattle.batch_book.specs.Said.{declared_last}
-use Rattle.batch_book.specs.Content.{Content, row_names, unit_codes, name_at, row_in, unit_in, node_name, world_in}
+use Rattle.batch_book.specs.Content.{Content, row_names, unit_codes, name_at, unit_in, node_name, world_in}
 use Rattle.batch_book.specs.declared.packed.Fault.TheVariants.{Open, Loose}
 use Rattle.batch_book.specs.Closing.{IsFirstIn, IsFirstFor, is_free, is_unpacked, shows, is_shown, silent, differing}
 use Rattle.batch_book.proofs.Lists.{get_or_got}

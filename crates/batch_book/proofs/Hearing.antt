@@ -1,12 +1,13 @@
 -- Declarations added and taken back, and walked in their order.
-use Rattle.std.proofs.Common.{◌≡◌, ℕ, zero, suc, ◌+◌, ◌-◌, ◌<◌, ◌≤◌, ◌&&◌, Bool, true, false, eqb, cond, List, [], ◌∷◌, ◌++◌, length, map, take, get_or, Option, Some, None, refl, sym, ap, subst, ◌∙◌, arith}
-use Rattle.std.specs.Prelude.{find, reverse}
+use Rattle.std.proofs.Common.{◌≡◌, ℕ, zero, suc, ◌+◌, ◌-◌, ◌<◌, ◌≤◌, ◌&&◌, Bool, true, false, cond, List, [], ◌∷◌, ◌++◌, length, take, get_or, Some, None, refl, sym, ap, ◌∙◌, arith}
+use Rattle.std.specs.Prelude.{find, reverse, option_map}
+use Rattle.std.proofs.lemmas.Bool.{eq-eqb}
 use Rattle.std.proofs.lemmas.List.{length_push, map_push, get_or-map, take_at, take_more, take_all, reverse-append}
 use borrow.Author.Tests.{eqb-true}
 use native.Mathlib.Decide.{dec_lt}
 use Rattle.row_chains.specs.Chains.{Grouped}
 use Rattle.batch_book.specs.declared.row.DeclarationRow.{DeclarationRow}
-use Rattle.batch_book.specs.Said.{batch_in, batches, is_by, last_by, IsReached}
+use Rattle.batch_book.specs.Said.{batch_in, batches, is_by, IsReached, declared, declared_last, numbers_in, last_by}
 use Rattle.batch_book.specs.Ledgers.{AreHeard}
 use Rattle.batch_book.proofs.Lists.{false_by}
 
@@ -88,3 +89,17 @@ last_reached said batch line from next x =
 
 pub last_none : (said : List DeclarationRow) (batch line : ℕ) → find (is_by batch line) (reverse (take 0 said)) ≡ None
 last_none said batch line = refl
+
+-- ---- the declaration that came last
+said_last : (said : List DeclarationRow) (row : DeclarationRow) (batch line : ℕ) → last_by batch line (said ++ row ∷ []) ≡ cond (is_by batch line row) (Some row) (last_by batch line said)
+said_last said row batch line = ap (find (is_by batch line)) (reverse-append said (row ∷ []))
+
+pub own_last : (said : List DeclarationRow) (batch line good spoiled returned : ℕ) → declared_last batch line (said ++ declared batch line (good ∷ spoiled ∷ returned ∷ []) ∷ []) ≡ Some (good ∷ spoiled ∷ returned ∷ [])
+own_last said batch line good spoiled returned =
+    let row : DeclarationRow = declared batch line (good ∷ spoiled ∷ returned ∷ []) in
+    ap (option_map numbers_in) (said_last said row batch line)
+    ∙ (λ z. option_map numbers_in (cond (eq-eqb batch batch refl z && eq-eqb line line refl z) (Some row) (last_by batch line said)))
+
+pub other_last : (said : List DeclarationRow) (row : DeclarationRow) (batch line : ℕ) → is_by batch line row ≡ false → declared_last batch line (said ++ row ∷ []) ≡ declared_last batch line said
+other_last said row batch line e =
+    ap (option_map numbers_in) (said_last said row batch line ∙ ap (λ b. cond b (Some row) (last_by batch line said)) e)

@@ -1,6 +1,6 @@
 -- Batches found, added, changed and taken back.
-use Rattle.std.proofs.Common.{◌≡◌, ℕ, zero, suc, ◌+◌, ◌-◌, ◌<◌, ◌≤◌, Bool, true, false, List, [], ◌∷◌, ◌++◌, length, map, take, get_or, set, Option, Some, None, refl, sym, ap, subst, ◌∙◌, arith, All}
-use Rattle.std.specs.List.{IsDistinct, position, slice_get}
+use Rattle.std.proofs.Common.{◌≡◌, ℕ, zero, suc, ◌+◌, ◌-◌, ◌<◌, true, false, List, [], ◌∷◌, ◌++◌, length, map, take, get_or, set, Some, None, refl, sym, ap, subst, ◌∙◌, arith, All}
+use Rattle.std.specs.List.{IsDistinct, position}
 use Rattle.std.proofs.lemmas.List.Sums.{position_or_len_is}
 use Rattle.std.proofs.lemmas.List.{length-map, length_push, map_push, get_or-map, take_at, get_or_append_left}
 use Rattle.std.proofs.lemmas.List.Folds.{list_any_none}
@@ -14,7 +14,7 @@ use Rattle.place_table.specs.View.{Indexed}
 use Rattle.place_table.specs.Hash.{text_hash}
 use Rattle.batch_book.specs.Batches.{name_in, is_called, AreApart, IsNamed, changed, with_phase, with_quantity, phased, amended}
 use Rattle.batch_book.specs.Ledgers.{hash_in, AreOrdered}
-use Rattle.batch_book.proofs.Lists.{false_by, place_is, nowhere, all_push, all_front}
+use Rattle.batch_book.proofs.Lists.{place_is, nowhere, all_push, all_front}
 
 pub no_batch : Batch
 no_batch = record {

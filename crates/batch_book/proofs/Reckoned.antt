@@ -1,6 +1,6 @@
 -- What a line got of a batch and what it declared, by name and by number.
-use Rattle.std.proofs.Common.{◌≡◌, ℕ, ◌<◌, ◌&&◌, Bool, true, false, eqb, List, [], ◌∷◌, length, map, get_or, Option, Some, None, refl, sym, ap, ◌∙◌, All}
-use Rattle.std.specs.Prelude.{find, filter, reverse, option_map, count_by, nat_eq}
+use Rattle.std.proofs.Common.{◌≡◌, ℕ, ◌<◌, ◌&&◌, Bool, true, false, eqb, List, [], ◌∷◌, length, map, Option, Some, None, refl, sym, ap, ◌∙◌, All}
+use Rattle.std.specs.Prelude.{find, reverse, option_map, nat_eq}
 use Rattle.std.specs.List.{list_any}
 use Rattle.std.proofs.lemmas.Bool.{eq-eqb, ne_eqb}
 use Rattle.std.proofs.lemmas.List.Sums.{length-filter}
@@ -14,10 +14,10 @@ use Rattle.deed_words.specs.declared.words.State.TheVariants.{Fresh, Lent, Retur
 use Rattle.deed_words.specs.declared.world.Row.{Row}
 use Rattle.deed_words.specs.declared.world.Declaration.{Declaration}
 use Rattle.item_store.specs.declared.row.ItemRow.{ItemRow}
-use Rattle.item_store.specs.Rows.{is_of, is_line, is_lent_to, line_class, count_to, line_counts_of}
+use Rattle.item_store.specs.Rows.{is_line, is_lent_to, line_class, count_to, line_counts_of}
 use Rattle.batch_book.specs.declared.row.DeclarationRow.{DeclarationRow}
 use Rattle.batch_book.specs.Batches.{name_in, AreApart, IsNamed}
-use Rattle.batch_book.specs.Said.{numbers_in, is_by, last_by, declared_last}
+use Rattle.batch_book.specs.Said.{numbers_in, is_by, declared_last}
 use Rattle.batch_book.specs.Content.{Content, name_at, row_in, said_in, world_in}
 use Rattle.batch_book.proofs.Found.{any_filtered, length_filtered, find_mapped, reverse_mapped}
 use Rattle.batch_book.proofs.Bridge.{own_name}

@@ -1,5 +1,5 @@
 -- What the stores of a site hold by number, and the world by name that it is.
-use Rattle.std.specs.Prelude.{ℕ, List, [], map, length, slice_index_or}
+use Rattle.std.specs.Prelude.{ℕ, List, [], map, slice_index_or}
 use Rattle.epc_urn.specs.declared.epc.Epc.{Epc}
 use Rattle.epc_urn.specs.declared.epc.Epc.TheVariants.{Unit as Box}
 use Rattle.deed_words.specs.Names.{Text}

@@ -1,5 +1,5 @@
 -- What a contract says of declarations.
-use Rattle.std.specs.Prelude.{ℕ, ◌≤◌, ◌<◌, ◌&&◌, ◌≡◌, Bool, false, eqb, List, [], ◌∷◌, map, find, reverse, length, Option, option_map, slice_index, slice_index_or}
+use Rattle.std.specs.Prelude.{ℕ, ◌≤◌, ◌<◌, ◌&&◌, ◌≡◌, Bool, eqb, List, [], ◌∷◌, map, find, reverse, length, Option, option_map, slice_index}
 use Rattle.batch_book.specs.declared.row.DeclarationRow.{DeclarationRow}
 use Rattle.row_chains.specs.Chains.{NoneIn}
 

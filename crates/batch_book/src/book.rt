@@ -1,5 +1,5 @@
 //! The book.
-ghost use Rattle.std.specs.Prelude.{◌≡◌, ◌+◌, ◌-◌, ◌<◌, ◌≤◌, ◌∷◌, ◌++◌, [], false, length, take, All, IfNone, OnOk, Some};
+ghost use Rattle.std.specs.Prelude.{◌≡◌, ◌+◌, ◌-◌, ◌<◌, ◌≤◌, ◌∷◌, ◌++◌, [], false, length, take, All, IfNone, IsOk, OnOk, Some, ◌↔◌};
 ghost use Rattle.std.specs.List.{HoldsAt, position, slice_get};
 ghost use Rattle.deed_words.specs.declared.words.Phase.TheVariants.{Planned, Started, Closed};
 ghost use Rattle.batch_book.specs.Batches.{is_called, AreApart, IsNamed, planned as planned_batch, phased, amended};
@@ -8,13 +8,14 @@ ghost use Rattle.batch_book.specs.Ledgers.{AreOfBatches};
 ghost use Rattle.std.specs.Result.{result_err};
 ghost use Rattle.deed_words.specs.Setups.{Setup};
 ghost use Rattle.deed_words.specs.Accounts.{finding};
+ghost use Rattle.deed_words.specs.Accounted.{IsAccounted};
 ghost use Rattle.batch_book.specs.Content.{world_of, name_at};
 
 use crate::accounts::accounted;
 use crate::declarations::Declarations;
 use crate::orders::Orders;
 use crate::row::DeclarationRow;
-use deed_words::{Batch, BatchId, Finding, OrderRow, Phase, StationId};
+use deed_words::{Batch, BatchId, Finding, OrderRow, Phase, StationId, closes_where_accounted};
 use gs1_keys::{Memory, Text20};
 use item_store::Items;
 use pack_tree::Tree;
@@ -178,7 +179,8 @@ impl Book {
     /// that isn't Void is Sealed, each such case stands on a pallet where the order has pallets, and each line that was
     /// lent serials of it declared last what is counted. The lines are looked for among so many stations.
     ///
-    /// It costs a look at what the batch has, not at what the site has.
+    /// The rows and the tree are of one site: the tree's items are the rows. It costs a look at what the batch has, not
+    /// at what the site has.
     ///
     /// # Errors
     ///
@@ -192,8 +194,10 @@ impl Book {
     ) -> Result<(), Finding>
         requires range { batch < length self.now.batches }
         requires items { tree.now.items ≡ length items.now.rows }
-        ensures { (site : Setup) → length site.stations ≡ stations → result_err result ≡ finding site (world_of self.now items.now tree.now) (name_at self.now.batches batch) }
+        ensures found { (site : Setup) → length site.stations ≡ stations → result_err result ≡ finding site (world_of self.now items.now tree.now) (name_at self.now.batches batch) }
+        ensures ok { (site : Setup) → length site.stations ≡ stations → IsOk result ↔ IsAccounted site (world_of self.now items.now tree.now) (name_at self.now.batches batch) }
     {
+        closes_where_accounted();
         accounted(self, items, tree, batch, stations)
     }
 

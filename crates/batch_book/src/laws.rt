@@ -1,8 +1,10 @@
-//! What is done and taken back leaves the book as it was, its room included.
-ghost use Rattle.std.specs.Prelude.{◌≡◌, ◌<◌, false, length, All};
+//! What is done and taken back leaves the book as it was, its room included; and which declaration counts.
+ghost use Rattle.std.specs.Prelude.{◌≡◌, ℕ, ◌<◌, ◌∷◌, ◌++◌, [], false, length, All, List, Some};
 ghost use Rattle.std.specs.List.{HoldsAt};
 ghost use Rattle.deed_words.specs.declared.words.Phase.TheVariants.{Started, Closed};
+ghost use Rattle.batch_book.specs.declared.row.DeclarationRow.{DeclarationRow as TheDeclaration};
 ghost use Rattle.batch_book.specs.Batches.{is_called};
+ghost use Rattle.batch_book.specs.Said.{declared, declared_last, is_by};
 
 use crate::book::Book;
 use deed_words::{BatchId, OrderRow, Phase, StationId};
@@ -49,3 +51,10 @@ pub fn declare_is_taken_back(book: &mut Book, batch: BatchId, line: StationId, n
     book.declare(batch, line, numbers);
     book.undeclare();
 }
+
+/// What a line declared last of a batch counts, and what is said by another line, or of another batch, changes nothing
+/// of it: the contract of a function that does nothing.
+pub fn last_declaration_counts()
+    ensures own { (declarations : List TheDeclaration) (batch line good spoiled returned : ℕ) → declared_last batch line (declarations ++ declared batch line (good ∷ spoiled ∷ returned ∷ []) ∷ []) ≡ Some (good ∷ spoiled ∷ returned ∷ []) }
+    ensures other { (declarations : List TheDeclaration) (said : TheDeclaration) (batch line : ℕ) → is_by batch line said ≡ false → declared_last batch line (declarations ++ said ∷ []) ≡ declared_last batch line declarations }
+{}

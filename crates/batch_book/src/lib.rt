@@ -16,11 +16,7 @@ mod row;
 
 pub use book::Book;
 pub use laws::{
-    add_is_taken_back, amend_is_taken_back, declare_is_taken_back, phase_is_taken_back,
+    add_is_taken_back, amend_is_taken_back, declare_is_taken_back, last_declaration_counts,
+    phase_is_taken_back,
 };
 pub use row::DeclarationRow;
-
-#[cfg(test)]
-mod account_tests;
-#[cfg(test)]
-mod tests;

@@ -2,20 +2,14 @@
 #![tactic(auto)]
 
 mod ask;
-#[cfg(test)]
-mod ask_tests;
 mod deed;
 mod deed_fault;
-#[cfg(test)]
-mod deed_tests;
 mod deed_word;
 mod list;
 mod member;
 mod object;
 mod reply;
 mod rule;
-#[cfg(test)]
-mod tests;
 mod unkept;
 mod value;
 mod words;

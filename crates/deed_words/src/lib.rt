@@ -32,6 +32,3 @@ pub use words::{
     BatchId, Condition, ItemId, Level, Mark, Phase, Role, State, StationId, UnitId, What,
 };
 pub use world::{Batch, Container, Declaration, Pair, Row};
-
-#[cfg(test)]
-mod tests;

@@ -28,6 +28,3 @@ pub use reading::read_entries;
 pub use site_reading::read_setup;
 pub use site_writing::print_setup;
 pub use writing::{print_entries, print_entry};
-
-#[cfg(test)]
-mod tests;

@@ -12,8 +12,6 @@ mod key;
 mod print;
 mod read;
 mod serial;
-#[cfg(test)]
-mod tests;
 mod text;
 
 pub use epc::Epc;

@@ -23,6 +23,3 @@ pub use laws::{gate_place, one_reading, two_readings, with_or_without};
 pub use loaded::Loaded;
 pub use payload::Payload;
 pub use payloads::Payloads;
-
-#[cfg(test)]
-mod tests;

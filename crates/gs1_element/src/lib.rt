@@ -22,6 +22,3 @@ pub use date::is_date;
 pub use fault::ElementFault;
 pub use parts::Part;
 pub use scan::read_code;
-
-#[cfg(test)]
-mod tests;

@@ -9,6 +9,3 @@ mod target;
 
 pub use routes::Routes;
 pub use target::Target;
-
-#[cfg(test)]
-mod tests;

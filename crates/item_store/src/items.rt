@@ -3,7 +3,7 @@ ghost use Rattle.std.specs.Prelude.{◌≡◌, ◌+◌, ◌-◌, ◌<◌, ◌≤
 ghost use Rattle.std.specs.List.{HoldsAt, position, list_any};
 ghost use Rattle.deed_words.specs.declared.words.State.TheVariants.{Fresh, Lent};
 ghost use Rattle.row_chains.specs.Chains.{IsFollowed};
-ghost use Rattle.item_store.specs.Rows.{is_named, IsLined, AreApart, fresh_row, changed, restated, counts_of, fresh_places, batches, is_in, line_counts_of, is_lent_to};
+ghost use Rattle.item_store.specs.Rows.{is_named, IsLined, AreApart, fresh_row, changed, restated, count_in as the_count_in, counts_of, fresh_places, batches, is_in, line_counts_of, is_lent_to};
 
 use crate::cursors::{back_to, fresh_from, ready_cursors, settle, start};
 use crate::lines::{LINE_CELLS, line_cell, line_counts, was_lent};
@@ -218,6 +218,13 @@ impl Items {
         let rows = self.rows.as_slice();
         let from = start(self.cursors.as_slice(), &self.chains, rows, batch);
         fresh_from(alloc, &self.chains, rows, batch, from, count)
+    }
+
+    /// How many rows of a batch are in a state.
+    pub fn count(&self, batch: BatchId, state: State) -> u32
+        ensures { result ≡ the_count_in batch state self.now.rows }
+    {
+        count_in(self.by_state.as_slice(), self.rows.as_slice(), batch, state)
     }
 
     /// How many rows of a batch there are.

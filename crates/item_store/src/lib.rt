@@ -16,6 +16,3 @@ mod walk;
 pub use items::Items;
 pub use laws::{add_is_taken_back, move_is_taken_back};
 pub use row::{Counts, ItemRow};
-
-#[cfg(test)]
-mod tests;

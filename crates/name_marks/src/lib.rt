@@ -4,8 +4,6 @@
 
 mod marks;
 mod repeat;
-#[cfg(test)]
-mod tests;
 
 pub use marks::Marks;
 pub use repeat::first_repeat;

@@ -39,8 +39,3 @@ pub use random_words::RandomWords;
 pub use standard::take_standard_streams;
 pub use system_clock::SystemClock;
 pub use tcp::{TcpDoor, TcpLink};
-
-#[cfg(test)]
-mod door_tests;
-#[cfg(test)]
-mod tests;

@@ -22,6 +22,3 @@ pub use node::{Node, UnitRow};
 pub use packing::Children;
 pub use tree::Tree;
 pub use units::OwnUnits;
-
-#[cfg(test)]
-mod tests;

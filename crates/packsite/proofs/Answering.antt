@@ -1,53 +1,24 @@
 -- Answering a request.
-use Rattle.std.proofs.Common.{◌≡◌, ◌≤◌, ◌<◌, ◌+◌, ℕ, true, false, List, [], ◌∷◌, ◌++◌, length, Option, Some, None, Ok, refl, ap, sym, ◌∙◌, subst, true≢false, arith}
-use Rattle.std.specs.Prelude.{nat_eq}
-use Rattle.std.specs.Cmp.{nat_eq_equiv}
+use Rattle.std.proofs.Common.{◌≡◌, ◌≤◌, ◌+◌, inl, inr, ℕ, List, [], ◌∷◌, ◌++◌, length, Ok, refl, ap, sym, ◌∙◌, subst}
 use Rattle.deed_words.specs.Setups.{Setup}
-use Rattle.deed_words.specs.World.{World}
 use Rattle.deed_words.specs.declared.entry.Ask.{Ask}
 use Rattle.deed_words.specs.declared.entry.Entry.{Entry}
-use Rattle.deed_words.specs.declared.rule.Rule.{Rule}
 use Rattle.deed_words.specs.Rules.{broken}
-use Rattle.deed_words.specs.Replies.{reply_to, replied}
+use Rattle.deed_words.specs.Replies.{reply_to}
+use Rattle.deed_words.specs.Numbers.{Means, New}
 use Rattle.deed_words.specs.History.{own, world_of, IsLawful, AllFollow, MayFollow, last_stamp}
 use Rattle.deed_words.proofs.Following.{lawful_more}
-use Rattle.std.proofs.lemmas.Bool.Decides.{nat_tests}
-use Rattle.site_core.specs.Plans.{is_built, entry_of, IsNext, Makes}
+use Rattle.batch_book.specs.Content.{Content}
+use Rattle.site_core.specs.Plans.{IsNext, Makes}
 use Rattle.site_core.specs.declared.planned.Planned.{Planned}
 use Rattle.packsite.specs.Limits.{line_limit}
 use Rattle.deed_json.specs.Asked.{asked_of}
-use Rattle.packsite.specs.Rules.{rule_of}
 use Rattle.packsite.specs.Standing.{Stands}
-use Rattle.deed_words.specs.Names.{Text}
-use Rattle.deed_words.specs.declared.deed.Deed.{Deed}
-use Rattle.site_core.specs.Draws.{Draws, Spends, Stops}
+use Rattle.site_deeds.specs.Draws.{Spends, Stops}
 use Rattle.packsite.specs.declared.answer.Answer.{Answer}
-use Rattle.packsite.specs.declared.answer.Answer.TheVariants.{NotBuilt, TooLong, Unasked, Replied, WordsFault, WordsSpent, Memory}
-use Rattle.packsite.specs.Keeping.{Keeps}
-use Rattle.packsite.specs.Answers.{IsServed, IsUnserved, is_answered, Answers, LacksWords, SpendsWords}
-
--- the rule that the reply to an entry names is the one that its deed breaks
-pub rule_of-reply : (site : Setup) (w : World) (entry : Entry) → rule_of (reply_to site w entry) ≡ broken site w entry.station entry.deed
-unfolding reply_to replied
-rule_of-reply site w entry = elim (broken site w entry.station entry.deed) as (λ (rule : Option Rule). rule_of (replied site w entry rule) ≡ rule) [ None ↦ refl | Some rule ↦ refl ]
-
--- why a line that asks isn't answered by the site
-pub unserved_unbuilt : (site : Setup) (history : List Entry) (line : List ℕ) (ask : Ask) → length line ≤ line_limit → asked_of site line ≡ Ok ask → is_built ask.deed ≡ false → IsUnserved site history line
-unserved_unbuilt site history line ask short read other =
-    record { ask = ask; short = short; read = read; other = λ served. true≢false (sym served.built ∙ other) }
-
-pub unserved_number : (site : Setup) (history : List Entry) (line : List ℕ) (ask : Ask) → length line ≤ line_limit → asked_of site line ≡ Ok ask → nat_eq ask.number (length (own ask.station history) + 1) ≡ false → IsUnserved site history line
-unserved_number site history line ask short read other =
-    record {
-      ask = ask;
-      short = short;
-      read = read;
-      other = λ served. true≢false (sym (ap (λ (n : ℕ). nat_eq n (length (own ask.station history) + 1)) served.next ∙ nat_eq_equiv.refl (length (own ask.station history) + 1)) ∙ other);
-    }
-
-pub unserved_rule : (site : Setup) (history : List Entry) (line : List ℕ) (ask : Ask) → length line ≤ line_limit → asked_of site line ≡ Ok ask → is_answered (broken site (world_of site history) ask.station ask.deed) ≡ false → IsUnserved site history line
-unserved_rule site history line ask short read other =
-    record { ask = ask; short = short; read = read; other = λ served. true≢false (sym served.answered ∙ other) }
+use Rattle.packsite.specs.declared.answer.Answer.TheVariants.{TooLong, Unasked, NumberReused, NumberGap, Replied, WordsFault, WordsSpent, Memory}
+use Rattle.packsite.specs.Keeping.{Keeps, Tells}
+use Rattle.packsite.specs.Answers.{IsServed, Answers, LacksWords, SpendsWords}
 
 -- the stamp of the last entry
 last_stamp-push : (history : List Entry) (entry : Entry) → last_stamp (history ++ entry ∷ []) ≡ entry.stamp
@@ -57,87 +28,57 @@ last_stamp-push (e ∷ []) entry = refl
 last_stamp-push (e ∷ f ∷ history) entry = last_stamp-push (f ∷ history) entry
 
 -- with an entry more of stamp 0
-pub stands_more : (site : Setup) (history : List Entry) (entry : Entry) → Stands site history → MayFollow site history (world_of site history) entry → entry.stamp ≡ 0 → Stands site (history ++ entry ∷ [])
+stands_more : (site : Setup) (history : List Entry) (entry : Entry) → Stands site history → MayFollow site history (world_of site history) entry → entry.stamp ≡ 0 → Stands site (history ++ entry ∷ [])
 stands_more site history entry stands follows zero =
     record { lawful = lawful_more site history entry stands.lawful follows; unstamped = last_stamp-push history entry ∙ zero }
 
--- the rule that a planned reply names
-planned_rule : (site : Setup) (history : List Entry) (ask : Ask) (drawn : List Text) (planned : Planned) → planned.entry ≡ entry_of 0 ask 0 drawn → IsNext site history planned → rule_of planned.reply ≡ broken site (world_of site history) ask.station ask.deed
-planned_rule site history ask drawn planned is next =
-    ap rule_of next.reply ∙ rule_of-reply site (world_of site history) planned.entry ∙ ap (λ (e : Entry). broken site (world_of site history) e.station e.deed) is
+pub stands_on : (site site' : Setup) (history new : List Entry) (c : Content) (planned : Planned) → Stands site history → planned.entry.stamp ≡ 0 → IsNext site history c planned → site' ≡ site → new ≡ history ++ planned.entry ∷ [] → Stands site' new
+stands_on site site' history new c planned stands zero next same grown =
+    subst (λ (s : Setup). Stands s new) (sym same) (subst (Stands site) (sym grown) (stands_more site history planned.entry stands next.follows zero))
 
--- a request that is served, but for its rule
-served_where : (site : Setup) (history : List Entry) (line : List ℕ) (ask : Ask) (rule : Option Rule) → length line ≤ line_limit → asked_of site line ≡ Ok ask → is_built ask.deed ≡ true
-    → nat_eq ask.number (length (own ask.station history) + 1) ≡ true → broken site (world_of site history) ask.station ask.deed ≡ rule → is_answered rule ≡ true → IsServed site history line ask
-served_where site history line ask rule short read built number e told =
-    record { short = short; read = read; built = built; next = grind (arith, nat_tests, number); answered = ap is_answered e ∙ told }
+-- a request whose number doesn't come next
+pub told_known : (site : Setup) (history : List Entry) (line : List ℕ) (ask : Ask) (answer : Answer) → length line ≤ line_limit → asked_of site line ≡ Ok ask → Tells site history ask answer → Answers site history line answer [] history
+told_known site history line ask (Replied reply) short read tells =
+    inl (record { meant = record { ask = ask; asked = record { short = short; read = read }; means = tells }; stays = record { none = refl; history = refl } })
+told_known site history line ask NumberReused short read tells =
+    record { kept = tells.0; meant = record { ask = ask; asked = record { short = short; read = read }; means = tells.1 }; stays = record { none = refl; history = refl } }
+told_known site history line ask (NumberGap last) short read tells =
+    record { meant = record { ask = ask; asked = record { short = short; read = read }; means = tells }; stays = record { none = refl; history = refl } }
+told_known site history line ask Memory short read tells = refl
+told_known site history line ask TooLong short read tells = absurd tells
+told_known site history line ask (Unasked fault) short read tells = absurd tells
+told_known site history line ask WordsFault short read tells = absurd tells
+told_known site history line ask (WordsSpent found) short read tells = absurd tells
+
+-- a request that is served
+pub served_ask : (site : Setup) (history : List Entry) (line : List ℕ) (ask : Ask) → length line ≤ line_limit → asked_of site line ≡ Ok ask → Means site history ask.station ask.number ask.deed New → IsServed site history line ask
+served_ask site history line ask short read means = record { asked = record { short = short; read = read }; means = means }
 
 -- what comes of a plan is what the line is answered
-pub kept : (site : Setup) (history new : List Entry) (line : List ℕ) (ask : Ask) (taken : List ℕ) (planned : Planned) (answer : Answer) → length line ≤ line_limit → asked_of site line ≡ Ok ask → is_built ask.deed ≡ true
-    → nat_eq ask.number (length (own ask.station history) + 1) ≡ true → Makes site history 0 ask 0 taken planned → Keeps history planned answer new → (answer ≡ NotBuilt → taken ≡ []) → Answers site history line answer taken new
-kept site history new line ask taken planned NotBuilt short read built number m k none = (
-  unserved_rule site history line ask short read (ap is_answered (sym (planned_rule site history ask m.drawn planned m.entry m.next)) ∙ k.0),
-  record { none = none refl; history = k.1 },
-)
-kept site history new line ask taken planned (Replied reply) short read built number m k none =
-    record {
+pub kept : (site : Setup) (history new : List Entry) (c : Content) (line : List ℕ) (ask : Ask) (taken : List ℕ) (planned : Planned) (answer : Answer) → IsServed site history line ask → Makes site history c 0 ask 0 taken planned → Keeps history planned answer new
+    → Answers site history line answer taken new
+kept site history new c line ask taken planned (Replied reply) served m k =
+    inr (record {
       ask = ask;
       drawn = m.drawn;
-      served = served_where site history line ask (rule_of planned.reply) short read built number (sym (planned_rule site history ask m.drawn planned m.entry m.next)) k.0;
+      served = served;
       draws = m.draws;
-      reply_is = k.1 ∙ m.next.reply ∙ ap (reply_to site (world_of site history)) m.entry;
-      history = k.2 ∙ ap (λ (e : Entry). history ++ e ∷ []) m.entry;
-    }
-kept site history new line ask taken planned TooLong short read built number m k none = absurd k
-kept site history new line ask taken planned (Unasked fault) short read built number m k none = absurd k
-kept site history new line ask taken planned WordsFault short read built number m k none = absurd k
-kept site history new line ask taken planned (WordsSpent found) short read built number m k none = absurd k
-kept site history new line ask taken planned Memory short read built number m k none = k
+      reply_is = k.0 ∙ m.next.reply ∙ ap (reply_to site (world_of site history)) m.entry;
+      history = k.1 ∙ ap (λ (e : Entry). history ++ e ∷ []) m.entry;
+    })
+kept site history new c line ask taken planned TooLong served m k = absurd k
+kept site history new c line ask taken planned (Unasked fault) served m k = absurd k
+kept site history new c line ask taken planned NumberReused served m k = absurd k
+kept site history new c line ask taken planned (NumberGap last) served m k = absurd k
+kept site history new c line ask taken planned WordsFault served m k = absurd k
+kept site history new c line ask taken planned (WordsSpent found) served m k = absurd k
+kept site history new c line ask taken planned Memory served m k = k
 
--- a request whose rule isn't answered takes no words
-pub takes_none : (site : Setup) (history : List Entry) (ask : Ask) (taken : List ℕ) (planned : Planned) → Makes site history 0 ask 0 taken planned → is_answered (rule_of planned.reply) ≡ false → taken ≡ []
-unfolding Draws
-takes_none site history ask taken planned m other =
-    let e = planned_rule site history ask m.drawn planned m.entry m.next in
-    (elim (broken site (world_of site history) ask.station ask.deed) as (λ (r : Option Rule). Draws site (world_of site history) r ask.deed taken m.drawn → is_answered r ≡ false → taken ≡ []) [
-      | None ↦ λ _ f. absurd (true≢false f)
-      | Some rule ↦ λ d _. d.0
-    ]) m.draws (ap is_answered (sym e) ∙ other)
+pub lacks_words : (site : Setup) (history new : List Entry) (line : List ℕ) (ask : Ask) (taken : List ℕ) → IsServed site history line ask → Stops site (world_of site history) (broken site (world_of site history) ask.station ask.deed) ask.deed taken → new ≡ history → LacksWords site history line taken new
+lacks_words site history new line ask taken served stops same = record { ask = ask; served = served; stops = stops; history = same }
 
--- a draw whose words failed or were spent breaks no rule
-stops_breaks_none : (site : Setup) (w : World) (rule : Option Rule) (deed : Deed) (taken : List ℕ) → Stops site w rule deed taken → is_answered rule ≡ true
-unfolding Stops
-stops_breaks_none site w None deed taken s = refl
-stops_breaks_none site w (Some rule) deed taken s = absurd s
-
-spends_breaks_none : (site : Setup) (w : World) (rule : Option Rule) (deed : Deed) (taken : List ℕ) (found : ℕ) → Spends site w rule deed taken found → is_answered rule ≡ true
-unfolding Spends
-spends_breaks_none site w None deed taken found s = refl
-spends_breaks_none site w (Some rule) deed taken found s = absurd s
-
-pub lacks_words : (site : Setup) (history new : List Entry) (line : List ℕ) (ask : Ask) (taken : List ℕ) → length line ≤ line_limit → asked_of site line ≡ Ok ask → is_built ask.deed ≡ true
-    → nat_eq ask.number (length (own ask.station history) + 1) ≡ true → Stops site (world_of site history) (broken site (world_of site history) ask.station ask.deed) ask.deed taken → new ≡ history → LacksWords site history line taken new
-lacks_words site history new line ask taken short read built number stops same =
-    record {
-      ask = ask;
-      served = served_where site history line ask _ short read built number refl (stops_breaks_none site (world_of site history) (broken site (world_of site history) ask.station ask.deed) ask.deed taken stops);
-      stops = stops;
-      history = same;
-    }
-
-pub spends_words : (site : Setup) (history new : List Entry) (line : List ℕ) (ask : Ask) (taken : List ℕ) (found : ℕ) → length line ≤ line_limit → asked_of site line ≡ Ok ask → is_built ask.deed ≡ true
-    → nat_eq ask.number (length (own ask.station history) + 1) ≡ true → Spends site (world_of site history) (broken site (world_of site history) ask.station ask.deed) ask.deed taken found → new ≡ history → SpendsWords site history line found taken new
-spends_words site history new line ask taken found short read built number spends same =
-    record {
-      ask = ask;
-      served = served_where site history line ask _ short read built number refl (spends_breaks_none site (world_of site history) (broken site (world_of site history) ask.station ask.deed) ask.deed taken found spends);
-      spends = spends;
-      history = same;
-    }
-
-pub stands_on : (site site' : Setup) (history new : List Entry) (planned : Planned) → Stands site history → planned.entry.stamp ≡ 0 → IsNext site history planned → site' ≡ site → new ≡ history ++ planned.entry ∷ [] → Stands site' new
-stands_on site site' history new planned stands zero next same grown =
-    subst (λ (s : Setup). Stands s new) (sym same) (subst (Stands site) (sym grown) (stands_more site history planned.entry stands next.follows zero))
+pub spends_words : (site : Setup) (history new : List Entry) (line : List ℕ) (ask : Ask) (taken : List ℕ) (found : ℕ) → IsServed site history line ask → Spends site (world_of site history) (broken site (world_of site history) ask.station ask.deed) ask.deed taken found → new ≡ history → SpendsWords site history line found taken new
+spends_words site history new line ask taken found served spends same = record { ask = ask; served = served; spends = spends; history = same }
 
 -- a history in which nothing has happened
 pub lawful_none : (site : Setup) → IsLawful site []
@@ -148,3 +89,8 @@ pub stands_none : (site site' : Setup) (history : List Entry) → site' ≡ site
 unfolding last_stamp
 stands_none site site' history same none =
     subst (λ (h : List Entry). Stands site' h) (sym none) (record { lawful = lawful_none site'; unstamped = refl })
+
+-- a number that comes next
+pub new_number : (site : Setup) (history : List Entry) (ask : Ask) → Means site history ask.station ask.number ask.deed New → ask.number ≡ length (own ask.station history) + 1
+unfolding Means
+new_number site history ask means = means

@@ -1,4 +1,5 @@
 mod Answering
+mod Causing
 mod Cutting
 mod Going
 mod Limit
@@ -6,5 +7,6 @@ mod Promised
 mod Putting
 mod Served
 mod ServedSite
+mod Stationed
 mod Statuses
 mod Words

@@ -1,48 +1,42 @@
 -- What a line is answered, and what it does to the history.
-use Rattle.std.specs.Prelude.{◌≡◌, ◌≤◌, ◌<◌, ◌+◌, ℕ, Bool, true, false, List, [], ◌∷◌, ◌++◌, Option, Some, None, Ok, Err, length, codes}
+use Rattle.std.specs.Prelude.{◌≡◌, ◌≤◌, ◌<◌, ◌⊎◌, ℕ, Bool, true, false, List, [], ◌∷◌, ◌++◌, Ok, Err, length}
 use Rattle.serde_json.specs.Written.{compact_text}
 use Rattle.deed_words.specs.declared.entry.Ask.{Ask}
 use Rattle.deed_words.specs.declared.entry.Entry.{Entry}
 use Rattle.deed_words.specs.declared.reply.Reply.{Reply}
-use Rattle.deed_words.specs.declared.rule.Rule.{Rule}
-use Rattle.deed_words.specs.declared.rule.Rule.TheVariants.{UnknownBatch}
 use Rattle.deed_words.specs.Setups.{Setup}
 use Rattle.deed_words.specs.Rules.{broken}
 use Rattle.deed_words.specs.Replies.{reply_to}
-use Rattle.deed_words.specs.History.{own, world_of}
+use Rattle.deed_words.specs.History.{world_of}
 use Rattle.deed_json.specs.Replies.{reply_data, NamesStationsOf}
 use Rattle.deed_words.specs.Names.{Text}
-use Rattle.site_core.specs.Draws.{Draws, Spends, Stops}
-use Rattle.site_core.specs.Plans.{is_built, entry_of}
+use Rattle.deed_words.specs.declared.deed.Deed.{Deed}
+use Rattle.deed_words.specs.Numbers.{Means, Meaning, Kept, Reused, New, Gap}
+use Rattle.site_deeds.specs.Draws.{Draws, Spends, Stops}
+use Rattle.site_core.specs.Plans.{entry_of}
 use Rattle.packsite.specs.declared.answer.Answer.{Answer}
-use Rattle.packsite.specs.declared.answer.Answer.TheVariants.{NotBuilt, TooLong, Unasked, Replied, WordsFault, WordsSpent, Memory}
+use Rattle.packsite.specs.declared.answer.Answer.TheVariants.{TooLong, Unasked, NumberReused, NumberGap, Replied, WordsFault, WordsSpent, Memory}
 use Rattle.packsite.specs.Limits.{line_limit}
 use Rattle.deed_json.specs.Asked.{asked_of}
 use Rattle.deed_json.specs.Unkept.{unkept_data, unkept_of}
 use Rattle.deed_json.specs.declared.ask.AskFault.{AskFault}
 use Rattle.deed_json.specs.declared.unkept.Unkept.TheVariants as unkept
 
--- no rule is broken, or the one that is answered already: that no batch has the name
-abbrev pub is_answered : Option Rule → Bool
-is_answered None = true
-is_answered (Some UnknownBatch) = true
-is_answered (Some rule) = false
-
--- The line is answered by the site: it is short, it reads as a request of a deed that is built, its number is the
--- station's next one, and the first rule that it breaks, if there is one, is answered.
-pub record IsServed (site : Setup) (history : List Entry) (line : List ℕ) (ask : Ask) : Type 0 where
+-- the line is short, and reads as this request
+pub record Asks (site : Setup) (line : List ℕ) (ask : Ask) : Type 0 where
   pub short : length line ≤ line_limit
   pub read : asked_of site line ≡ Ok ask
-  pub built : is_built ask.deed ≡ true
-  pub next : ask.number ≡ length (own ask.station history) + 1
-  pub answered : is_answered (broken site (world_of site history) ask.station ask.deed) ≡ true
 
--- the line asks for this, and isn't answered by the site
-pub record IsUnserved (site : Setup) (history : List Entry) (line : List ℕ) : Type 0 where
+-- the line reads as a request whose number means this
+pub record IsMeant (site : Setup) (history : List Entry) (line : List ℕ) (meaning : Meaning) : Type 0 where
   pub ask : Ask
-  pub short : length line ≤ line_limit
-  pub read : asked_of site line ≡ Ok ask
-  pub other : IsServed site history line ask → ⊥
+  pub asked : Asks site line ask
+  pub means : Means site history ask.station ask.number ask.deed meaning
+
+-- The line is served by a step: it reads as a request, and its number comes next.
+pub record IsServed (site : Setup) (history : List Entry) (line : List ℕ) (ask : Ask) : Type 0 where
+  pub asked : Asks site line ask
+  pub means : Means site history ask.station ask.number ask.deed New
 
 -- the line asks for nothing, for this reason
 pub record IsUnasked (site : Setup) (line : List ℕ) (fault : AskFault) : Type 0 where
@@ -53,6 +47,22 @@ pub record IsUnasked (site : Setup) (line : List ℕ) (fault : AskFault) : Type 
 pub record Stays (old : List Entry) (taken : List ℕ) (new : List Entry) : Type 0 where
   pub none : taken ≡ []
   pub history : new ≡ old
+
+-- the number was kept with an equal deed: the reply is the one that was kept, and nothing changes
+pub record Repeats (site : Setup) (old : List Entry) (line : List ℕ) (reply : Reply) (taken : List ℕ) (new : List Entry) : Type 0 where
+  pub meant : IsMeant site old line (Kept reply)
+  pub stays : Stays old taken new
+
+-- the number was kept with another deed, and nothing changes
+pub record Reuses (site : Setup) (old : List Entry) (line : List ℕ) (taken : List ℕ) (new : List Entry) : Type 0 where
+  pub kept : Deed
+  pub meant : IsMeant site old line (Reused kept)
+  pub stays : Stays old taken new
+
+-- the number is 0 or leaves some out, the station's last one is this, and nothing changes
+pub record LeavesGap (site : Setup) (old : List Entry) (line : List ℕ) (last : ℕ) (taken : List ℕ) (new : List Entry) : Type 0 where
+  pub meant : IsMeant site old line (Gap last)
+  pub stays : Stays old taken new
 
 -- the request, which drew these serials from the words taken, became the next entry of the history, and the reply is
 -- the one to it
@@ -80,19 +90,21 @@ pub record SpendsWords (site : Setup) (old : List Entry) (line : List ℕ) (foun
 
 -- From old, the line may get this answer, take these words and lead to new. Want of memory may come at any time.
 abbrev pub Answers : Setup → List Entry → List ℕ → Answer → List ℕ → List Entry → Type 0
-Answers site old line NotBuilt taken new = IsUnserved site old line × Stays old taken new
 Answers site old line TooLong taken new = (line_limit < length line) × Stays old taken new
 Answers site old line (Unasked fault) taken new = IsUnasked site line fault × Stays old taken new
-Answers site old line (Replied reply) taken new = Replies site old line reply taken new
+Answers site old line NumberReused taken new = Reuses site old line taken new
+Answers site old line (NumberGap last) taken new = LeavesGap site old line last taken new
+Answers site old line (Replied reply) taken new = Repeats site old line reply taken new ⊎ Replies site old line reply taken new
 Answers site old line WordsFault taken new = LacksWords site old line taken new
 Answers site old line (WordsSpent found) taken new = SpendsWords site old line found taken new
 Answers site old line Memory taken new = new ≡ old
 
 -- the text of an answer: compact JSON
 unfoldable pub answer_text : Setup → Answer → List ℕ
-answer_text site NotBuilt = codes "{\"fault\":\"NotBuilt\",\"ok\":false}"
 answer_text site TooLong = compact_text (unkept_data unkept.LineTooLong)
 answer_text site (Unasked fault) = compact_text (unkept_data (unkept_of fault))
+answer_text site NumberReused = compact_text (unkept_data unkept.NumberReused)
+answer_text site (NumberGap last) = compact_text (unkept_data (unkept.NumberGap last))
 answer_text site (Replied reply) = compact_text (reply_data site reply)
 answer_text site WordsFault = compact_text (unkept_data unkept.WordsFault)
 answer_text site (WordsSpent found) = compact_text (unkept_data (unkept.WordsSpent found))
@@ -100,9 +112,10 @@ answer_text site Memory = compact_text (unkept_data unkept.Memory)
 
 -- an answer tells a fault of the words
 abbrev pub tells_words_fault : Answer → Bool
-tells_words_fault NotBuilt = false
 tells_words_fault TooLong = false
 tells_words_fault (Unasked fault) = false
+tells_words_fault NumberReused = false
+tells_words_fault (NumberGap last) = false
 tells_words_fault (Replied reply) = false
 tells_words_fault WordsFault = true
 tells_words_fault (WordsSpent found) = false
@@ -110,9 +123,10 @@ tells_words_fault Memory = false
 
 -- the stations that the answer names are of the site
 abbrev pub IsPrintable : Setup → Answer → Type 0
-IsPrintable site NotBuilt = Unit {0}
 IsPrintable site TooLong = Unit {0}
 IsPrintable site (Unasked fault) = Unit {0}
+IsPrintable site NumberReused = Unit {0}
+IsPrintable site (NumberGap last) = Unit {0}
 IsPrintable site (Replied reply) = NamesStationsOf site reply
 IsPrintable site WordsFault = Unit {0}
 IsPrintable site (WordsSpent found) = Unit {0}

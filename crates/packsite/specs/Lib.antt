@@ -6,7 +6,6 @@ pub mod Newline
 pub mod Promises
 pub mod Puts
 pub mod Reading
-pub mod Rules
 pub mod Script
 pub mod Site
 pub mod Serving

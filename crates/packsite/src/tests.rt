@@ -12,8 +12,6 @@ const ORDER: &[u8] =
 
 const NEW: &[u8] = b"{\"already\":0,\"new\":1,\"ok\":true}\n";
 
-const NOT_BUILT: &[u8] = b"{\"fault\":\"NotBuilt\",\"ok\":false}\n";
-
 const BAD_LINE: &[u8] = b"{\"fault\":\"BadLine\",\"ok\":false}\n";
 
 /// Runs the program over lines, with the calls of input and output that fail, and gives its status and what it put.
@@ -98,12 +96,12 @@ fn lines_are_answered_in_order(rt: HostRuntime) -> Result<(), Fail> {
     let already: &[u8] = b"{\"already\":1,\"new\":0,\"ok\":true}\n";
     assert_eq!(rt; put, joined(&rt, &[NEW, already, already])?);
     assert_eq!(rt; status, 0);
-    // what isn't answered isn't kept: the number stays the next one
+    // a line that asks for nothing leaves the number, and a line that comes again is told the kept reply
     let input = joined(&rt, &[b"{\n", ORDER, b"\r\n", &again, &other, &other])?;
     let (status, put) = run_on(&rt, &input, &[], &[])?;
     assert_eq!(rt;
         put,
-        joined(&rt, &[BAD_LINE, NEW, BAD_LINE, already, already, NOT_BUILT])?
+        joined(&rt, &[BAD_LINE, NEW, BAD_LINE, already, already, already])?
     );
     assert_eq!(rt; status, 0);
     Ok(())
@@ -139,11 +137,23 @@ fn what_asks_for_nothing_is_told_why(rt: HostRuntime) -> Result<(), Fail> {
 }
 
 #[test]
-fn each_cause_of_not_built(rt: HostRuntime) -> Result<(), Fail> {
-    // another number than the next one, another deed, a rule that isn't told yet
-    assert!(rt; answers_changed(&rt, "\"number\":2", "\"number\":1", NOT_BUILT)?);
-    assert!(rt; answers_changed(&rt, "\"order\"", "\"close\"", NOT_BUILT)?);
-    assert!(rt; answers_changed(&rt, "\"quantity\":2", "\"quantity\":3", NOT_BUILT)?);
+fn rules_and_numbers_are_told(rt: HostRuntime) -> Result<(), Fail> {
+    let started: &[u8] = b"{\"ok\":true}\n";
+    let conflict: &[u8] = b"{\"ok\":false,\"row\":1,\"rule\":\"OrderConflict\"}\n";
+    let reused: &[u8] = b"{\"fault\":\"NumberReused\",\"ok\":false}\n";
+    let gap: &[u8] = b"{\"fault\":\"NumberGap\",\"last\":1,\"ok\":false}\n";
+    assert!(rt; answers_changed(&rt, "\"number\":2", "\"number\":1", NEW)?);
+    assert!(rt; answers_changed(&rt, "\"order\"", "\"start\"", started)?);
+    assert!(rt; answers_changed(&rt, "\"quantity\":2", "\"quantity\":3", conflict)?);
+    assert!(rt;
+        answers(
+            &rt,
+            b"{\"station\":\"P1\",\"number\":1,\"deed\":{\"do\":\"start\",\"batch\":\"B6\"}}",
+            reused
+        )?
+    );
+    assert!(rt; answers_changed(&rt, "\"number\":2", "\"number\":9", gap)?);
+    assert!(rt; answers_changed(&rt, "\"number\":2", "\"number\":0", gap)?);
     Ok(())
 }
 
@@ -159,6 +169,45 @@ fn serials_are_drawn(rt: HostRuntime) -> Result<(), Fail> {
     let words = FEW_WORDS.to_vec(rt.alloc())?;
     let (status, put) = drawing(&rt, &input, words, &[])?;
     assert_eq!(rt; put, joined(&rt, &[NEW, FIVE_AND_SEVEN])?);
+    assert_eq!(rt; status, 0);
+    Ok(())
+}
+
+/// A case is packed, sealed by another line, and its packing asked for again: under its number, under a number that is
+/// too far, with another deed, and as a new request.
+const PACKING: &[u8] =
+    b"{\"station\":\"P1\",\"number\":2,\"deed\":{\"do\":\"draw\",\"batch\":\"B6\",\"count\":2}}
+{\"station\":\"P1\",\"number\":3,\"deed\":{\"do\":\"start\",\"batch\":\"B6\"}}
+{\"station\":\"L1\",\"number\":1,\"deed\":{\"do\":\"lend\",\"batch\":\"B6\",\"count\":2}}
+{\"station\":\"L1\",\"number\":2,\"deed\":{\"do\":\"commission\",\"batch\":\"B6\",\"codes\":[\"01806141411234581727123110LOT6\\u001d21000005\"]}}
+{\"station\":\"L1\",\"number\":3,\"deed\":{\"do\":\"container\",\"batch\":\"B6\",\"level\":\"case\"}}
+{\"station\":\"L1\",\"number\":4,\"deed\":{\"do\":\"pack\",\"unit\":\"urn:epc:id:sscc:0614141.1000000001\",\"children\":[\"urn:epc:id:sgtin:0614141.812345.000005\"]}}
+{\"station\":\"L1\",\"number\":9,\"deed\":{\"do\":\"seal\",\"unit\":\"urn:epc:id:sscc:0614141.1000000001\"}}
+{\"station\":\"L2\",\"number\":1,\"deed\":{\"do\":\"seal\",\"unit\":\"urn:epc:id:sscc:0614141.1000000001\"}}
+{\"station\":\"L1\",\"number\":4,\"deed\":{\"do\":\"pack\",\"unit\":\"urn:epc:id:sscc:0614141.1000000001\",\"children\":[\"urn:epc:id:sgtin:0614141.812345.000005\"]}}
+{\"station\":\"L1\",\"number\":4,\"deed\":{\"do\":\"seal\",\"unit\":\"urn:epc:id:sscc:0614141.1000000001\"}}
+{\"station\":\"L1\",\"number\":5,\"deed\":{\"do\":\"pack\",\"unit\":\"urn:epc:id:sscc:0614141.1000000001\",\"children\":[\"urn:epc:id:sgtin:0614141.812345.000005\"]}}
+";
+
+const PACKED: &[u8] = b"{\"ok\":true,\"serials\":[\"000005\",\"000007\"]}
+{\"ok\":true}
+{\"ok\":true,\"serials\":[\"000005\",\"000007\"]}
+{\"ok\":true}
+{\"ok\":true,\"unit\":\"urn:epc:id:sscc:0614141.1000000001\"}
+{\"ok\":true}
+{\"fault\":\"NumberGap\",\"last\":4,\"ok\":false}
+{\"ok\":true}
+{\"ok\":true}
+{\"fault\":\"NumberReused\",\"ok\":false}
+{\"ok\":false,\"rule\":\"UnitSealed\"}
+";
+
+#[test]
+fn a_case_is_packed_once(rt: HostRuntime) -> Result<(), Fail> {
+    let input = joined(&rt, &[ORDER, PACKING])?;
+    let words = FEW_WORDS.to_vec(rt.alloc())?;
+    let (status, put) = drawing(&rt, &input, words, &[])?;
+    assert_eq!(rt; put, joined(&rt, &[NEW, PACKED])?);
     assert_eq!(rt; status, 0);
     Ok(())
 }

@@ -10,6 +10,3 @@ mod table;
 
 pub use hashing::{pair_hash, text_hash};
 pub use table::PlaceTable;
-
-#[cfg(test)]
-mod tests;

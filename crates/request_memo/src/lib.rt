@@ -13,6 +13,3 @@ pub use equal::same_deed;
 pub use laws::{kept_and_taken_back, taken_back_and_kept};
 pub use memo::Memo;
 pub use page::{Seen, Told};
-
-#[cfg(test)]
-mod tests;

@@ -6,6 +6,3 @@
 mod chains;
 
 pub use chains::RowChains;
-
-#[cfg(test)]
-mod tests;

@@ -19,6 +19,3 @@ pub use fault::{DrawFault, KnownFault};
 pub use laws::{commits_once, draws_new, takes_the_first};
 pub use plan::{DrawDone, DrawPlan, copied};
 pub use pool::Pool;
-
-#[cfg(test)]
-mod tests;

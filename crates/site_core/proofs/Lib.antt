@@ -1,6 +1,6 @@
-mod Deciding
-mod Drawable
-mod Keeping
-mod Ordered
-mod Serials
+mod Pages
+mod Entering
+mod Drawing
+mod Roomy
 mod Standing
+mod Coming

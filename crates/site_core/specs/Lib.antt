@@ -1,5 +1,7 @@
-pub mod Decisions
-pub mod Draws
-pub mod DrawEnds
-pub mod View
+pub mod Adopting
+pub mod Entries
 pub mod Plans
+pub mod Rooms
+pub mod Standing
+pub mod Trade
+pub mod View

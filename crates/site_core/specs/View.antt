@@ -1,20 +1,23 @@
 -- What contracts see of a site.
 use Rattle.std.specs.Prelude.{ℕ, List}
-use Rattle.serial_pool.specs.Held.{PoolView}
+use Rattle.deed_words.specs.Names.{Text}
 use Rattle.deed_words.specs.Setups.{Setup}
-use Rattle.deed_words.specs.World.{World}
 use Rattle.deed_words.specs.declared.entry.Entry.{Entry}
+use Rattle.batch_book.specs.Content.{Content}
+use Rattle.site_stores.specs.Holding as stores
 
--- the world that lists hold, and for how many more batches and serials there is room
-pub record Held : Type 0 where
-  pub world : World
-  pub batch_room : ℕ
-  pub serial_room : ℕ
+-- for how many more entries there is room; for how many more numbers, by station; what the stores have room for; for
+-- how many more serials the pool has room, and for which GTINs
+pub record Room : Type 0 where
+  pub entries : ℕ
+  pub numbers : List ℕ
+  pub stores : stores.Room
+  pub serials : ℕ
+  pub gtins : List Text
 
--- a site: its setup, its history, for how many more entries and serials there is room, and its pool
+-- its setup, its history, what the stores hold after it, and the room
 pub record View : Type 0 where
   pub setup : Setup
   pub history : List Entry
-  pub room : ℕ
-  pub serial_room : ℕ
-  pub pool : PoolView
+  pub content : Content
+  pub room : Room

@@ -1,16 +1,20 @@
-//! What comes next.
+//! What comes next, and what came last.
 ghost use Rattle.std.specs.Prelude.{◌≡◌};
-ghost use Rattle.site_core.specs.declared.planned.PlanFault.TheVariants.{Memory};
 
 use deed_words::{Entry, Reply};
-use gs1_keys::Memory as NoMemory;
-use serial_pool::DrawPlan;
+use gs1_keys::Serials;
+use serial_pool::{DrawDone, DrawPlan};
+use site_stores::Change;
+use std::marker::Model;
+use std::snapshot::Snapshot;
 
-/// An entry that may come next in the history of the site that planned it, and the reply that it gets.
+/// An entry that may come next in the history of the site that planned it, the reply that it gets, and what it changes.
 #[derive(Drop)]
 pub struct Planned {
     pub(crate) entry: Entry,
     pub(crate) reply: Reply,
+    /// What it changes in the stores.
+    pub(crate) change: Change,
     /// What the pool draws for it.
     pub(crate) draw: Option<DrawPlan>,
 }
@@ -31,21 +35,23 @@ impl Planned {
     }
 }
 
-/// Why no entry was planned.
-#[derive(Clone, Copy, Debug, PartialEq, Eq)]
-pub enum PlanFault {
-    /// Memory was wanting.
-    Memory,
-    /// A random word couldn't be had.
-    WordsFault,
-    /// All the words that the draw may take held only so many new serials.
-    WordsSpent(u64),
+/// What was committed, and what it takes to take it back: all of the planned value that the site doesn't keep itself.
+/// Contracts see it as the planned value that it came from.
+#[derive(Drop)]
+pub struct Committed {
+    pub(crate) drawn: Serials,
+    pub(crate) change: Change,
+    pub(crate) draw: Option<DrawDone>,
+    pub(crate) planned: Snapshot<Planned>,
 }
 
-impl From<NoMemory> for PlanFault {
-    ghost from_gives = { λ _ e. e ≡ Memory };
+impl Model for Committed {
+    ghost use Rattle.std.specs.Prelude.{◌≡◌};
+    ghost use Rattle.site_core.specs.declared.planned.Planned.{Planned as ThePlanned};
 
-    fn from(_: NoMemory) -> Self {
-        PlanFault::Memory
-    }
+    ghost Value = { ThePlanned };
+
+    ghost view = { λ c. c.planned.value };
+
+    ghost invariant = { λ c. (c.drawn ≡ c.planned.value.entry.drawn) × (c.change ≡ c.planned.value.change) × (c.draw ≡ c.planned.value.draw) };
 }

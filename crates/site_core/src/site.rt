@@ -1,64 +1,79 @@
 //! The site.
-ghost use Rattle.std.specs.Prelude.{◌≡◌, ◌<◌, ◌≤◌, ◌+◌, ◌++◌, ◌∷◌, [], length, true, All, IfOk, OnOk, nat_eq, count_by};
-ghost use Rattle.outside.specs.Causes.{HasCauseIf};
-ghost use Rattle.outside.specs.Devices.{Takes};
-ghost use Rattle.deed_words.specs.History.{own, last_stamp, world_of, IsLawful};
-ghost use Rattle.deed_words.specs.Proper.{IsProperAsk, IsProperEntry};
+ghost use Rattle.std.specs.Prelude.{◌≡◌, ◌<◌, ◌+◌, ◌^◌, [], length, All, IfOk};
+ghost use Rattle.std.specs.List.{position};
+ghost use Rattle.deed_words.specs.History.{last_stamp, world_of, IsLawful};
+ghost use Rattle.deed_words.specs.Numbers.{Means};
+ghost use Rattle.deed_words.specs.Proper.{IsProperEntry};
 ghost use Rattle.deed_words.specs.ProperWorlds.{IsProperWorld};
-ghost use Rattle.site_core.specs.Draws.{drawn_by_plan, MayCommit, HasRoomToDraw};
-ghost use Rattle.site_core.specs.DrawEnds.{is_words_fault};
-ghost use Rattle.site_core.specs.Plans.{is_built, Plans, IsNext, HasRoomFor};
+ghost use Rattle.deed_words.specs.Sound.{IsSound};
+ghost use Rattle.deed_words.specs.Setups.{IsProper};
+ghost use Rattle.deed_words.specs.Stations.{station_of};
+ghost use Rattle.batch_book.specs.Batches.{is_called};
+ghost use Rattle.request_memo.specs.Seeing.{meaning_of};
+ghost use Rattle.site_core.specs.Entries.{history_in};
 
-use crate::decision::{Decision, decide};
-use crate::lists::Lists;
-use crate::planned::{PlanFault, Planned};
-use deed_words::{Ask, Entry, Setup, StationId, worlds_are_proper};
-use gs1_keys::Memory;
-use outside::Words;
-use serial_pool::{DrawPlan, Pool};
+use crate::kept::Kept;
+use deed_words::{
+    BatchId, Deed, Setup, StationId, soundness_is_kept, station_of, worlds_are_proper,
+};
+use gs1_keys::{Memory, Text20};
+use request_memo::{Memo, Seen};
+use serial_pool::Pool;
+use site_stores::Stores;
 use std::alloc::Global;
 use std::marker::Model;
 
-/// A site: its setup, its history, which is lawful and of proper entries, what stands after it, and the serials that were drawn.
+/// A site: its setup, its history, which is lawful and of proper entries, and what stands after it.
 #[derive(Drop)]
 pub struct Site {
-    alloc: Global,
-    setup: Setup,
-    history: Vec<Entry>,
-    lists: Lists,
-    pool: Pool,
+    pub(crate) alloc: Global,
+    pub(crate) setup: Setup,
+    /// What is kept of each entry beside its deed and its reply.
+    pub(crate) kept: Vec<Kept>,
+    /// What each station asked and was told.
+    pub(crate) memo: Memo,
+    /// What stands after the history.
+    pub(crate) stores: Stores,
+    /// The serials that were drawn.
+    pub(crate) pool: Pool,
 }
 
 impl Model for Site {
-    ghost use Rattle.std.specs.Prelude.{◌≡◌, ◌-◌, min, vec_len, vec_capacity, All};
-    ghost use Rattle.deed_words.specs.History.{IsLawful, world_of};
-    ghost use Rattle.deed_words.specs.Proper.{IsProperEntry};
-    ghost use Rattle.site_core.specs.Draws.{drawn_in};
+    ghost use Rattle.std.specs.Prelude.{◌-◌, vec_len, vec_capacity};
     ghost use Rattle.site_core.specs.View.{View};
+    ghost use Rattle.site_core.specs.Entries.{history_in};
+    ghost use Rattle.site_core.specs.Standing.{Stands};
 
     ghost Value = { View };
 
     ghost view = { λ s. record {
       setup = s.setup;
-      history = s.history.items;
-      room = min (vec_capacity s.history - vec_len s.history) s.lists.batch_room;
-      serial_room = s.lists.serial_room;
-      pool = s.pool;
+      history = history_in s.memo.told s.kept.items;
+      content = s.stores.content;
+      room = record { entries = vec_capacity s.kept - vec_len s.kept; numbers = s.memo.room; stores = s.stores.room; serials = s.pool.room; gtins = s.pool.gtins };
     } };
 
-    ghost invariant = { λ s. IsLawful s.setup s.history.items × (s.lists.world ≡ world_of s.setup s.history.items) × (s.pool.drawn ≡ drawn_in s.lists.world) × All IsProperEntry s.history.items };
+    ghost invariant = { λ s. Stands s.setup (history_in s.memo.told s.kept.items) s.memo.told s.stores.content s.pool };
 }
 
 impl Site {
     /// A site in which nothing has happened.
+    ///
+    /// # Errors
+    ///
+    /// `Memory` where no memory was found.
     pub fn new(alloc: Global, setup: Setup) -> Result<Self, Memory>
         ensures { IfOk result (λ site. (site.setup ≡ setup) × (site.history ≡ [])) }
     {
+        setup.tell_proper();
+        let stations = setup.stations.len();
+        let memo = Memo::new(alloc, stations as u8)?;
         Ok(Site {
             alloc,
             setup,
-            history: Vec::new(alloc),
-            lists: Lists::new(alloc),
+            kept: Vec::new(alloc),
+            memo,
+            stores: Stores::new(alloc),
             pool: Pool::new(alloc),
         })
     }
@@ -72,138 +87,70 @@ impl Site {
 
     /// Tells contracts what every site keeps. It does nothing.
     pub fn tell_kept(&self)
+        ensures setup { IsProper self.now.setup }
         ensures lawful { IsLawful self.now.setup self.now.history }
         ensures proper { All IsProperEntry self.now.history }
+        ensures sound { IsSound self.now.setup (world_of self.now.setup self.now.history) }
         ensures world { IsProperWorld self.now.setup (world_of self.now.setup self.now.history) }
     {
+        soundness_is_kept();
         worlds_are_proper();
-        let _room = self.history.len();
+        self.setup.tell_proper();
     }
 
-    /// Whether a number is the station's next one: one more than it has entries.
-    pub fn is_next(&self, station: StationId, number: u64) -> bool
-        ensures { result ≡ nat_eq number (length (own station self.now.history) + 1) }
+    /// What a number of a station means, where this deed comes with it: it was kept with this deed, and this was the
+    /// reply; it was kept with another deed, this one; it comes next; or it leaves a gap. Deeds are compared and nothing
+    /// else: who operated doesn't matter. It takes no memory, and time for comparing two deeds alone.
+    pub fn look(&self, station: StationId, number: u64, deed: &Deed) -> Seen<'_>
+        requires { station < length self.now.setup.stations }
+        ensures { Means self.now.setup self.now.history station number deed.now (meaning_of result) }
     {
-        if number == 0 {
-            return false;
-        }
-        number - 1 == own_count(&self.history, station) as u64
+        self.memo.look(station, number, deed)
     }
 
-    /// Works out the entry that a request becomes, with its reply, and makes room for it. A rule that the request
-    /// breaks is a reply. A draw that breaks none takes words. The site stays as it is.
-    ///
-    /// The request is proper, of a station of the setup, and has its next number; the stamp is not before the last one,
-    /// and not past the year 9999.
-    ///
-    /// # Errors
-    ///
-    /// `WordsSpent` exactly where `4 * count + 64` words held fewer new serials than the draw asks for. `WordsFault`
-    /// where a word couldn't be had. `Memory` where no memory was found.
-    pub fn plan<W: Words>(
-        &mut self,
-        worker: u8,
-        ask: Ask,
-        stamp: u64,
-        words: &mut W,
-    ) -> Result<Planned, PlanFault>
-        requires station { ask.station < length self.old.setup.stations }
-        requires number { ask.number ≡ length (own ask.station self.old.history) + 1 }
-        requires proper { IsProperAsk ask }
-        requires stamp { last_stamp self.old.history ≤ stamp }
-        requires last { stamp ≤ 253402300799999 }
-        requires built { is_built ask.deed ≡ true }
-        ensures plan { Takes (W.words_left words.old) (W.words_left words.new) (λ taken. Plans self.old.setup self.old.history worker ask stamp taken result) }
-        ensures cause { HasCauseIf (is_words_fault result) (W.word_faults words.old) (W.word_faults words.new) }
-        ensures same { (self.new.setup ≡ self.old.setup) × (self.new.history ≡ self.old.history) }
-        ensures room { IfOk result (λ planned. HasRoomFor self.new planned) }
+    /// The station of that name. It is None exactly where the setup has none.
+    pub fn station(&self, name: &Text20) -> Option<StationId>
+        ensures { result ≡ station_of self.now.setup name.now }
     {
-        let decision = match decide(
-            self.alloc,
-            &self.setup,
-            &self.lists,
-            &mut self.pool,
-            ask.station,
-            &ask.deed,
-            words,
-        ) {
-            Ok(decision) => decision,
-            Err(fault) => return Err(fault),
-        };
-        let Ok(()) = self.make_room(decision.drawn.len()) else {
-            return Err(PlanFault::Memory);
-        };
-        Ok(planned(worker, ask, stamp, decision))
+        station_of(&self.setup, name.bytes())
     }
 
-    /// Makes room for one more entry, with so many serials.
-    fn make_room(&mut self, serials: usize) -> Result<(), Memory>
-        ensures same { (self.new.setup ≡ self.old.setup) × (self.new.history ≡ self.old.history) }
-        ensures room { OnOk result (0 < self.new.room) }
-        ensures serial_room { OnOk result (serials ≤ self.new.serial_room) }
-        ensures pool { self.new.pool ≡ self.old.pool }
+    /// The batch of that name. It is None exactly where none was ordered.
+    pub fn batch(&self, name: &Text20) -> Option<BatchId>
+        ensures { result ≡ position (is_called name.now) (world_of self.now.setup self.now.history).batches }
     {
-        self.lists.ready(serials)?;
-        match self.history.reserve(1) {
-            Ok(()) => Ok(()),
-            Err(_) => Err(Memory),
-        }
+        self.stores.find_batch(name)
     }
 
-    /// Puts what was planned last into the history. It takes no memory.
-    pub fn commit(&mut self, planned: Planned)
-        requires room { HasRoomFor self.old planned }
-        requires next { IsNext self.old.setup self.old.history planned }
-        ensures setup { self.new.setup ≡ self.old.setup }
-        ensures history { self.new.history ≡ self.old.history ++ planned.entry ∷ [] }
+    /// The stamp of the last entry, 0 where there is none.
+    pub fn last_stamp(&self) -> u64
+        ensures { result ≡ last_stamp self.now.history }
     {
-        self.lists.keep(&self.setup, &planned);
-        commit_draw(&mut self.pool, planned.draw);
-        self.history.push_reserved(planned.entry);
+        stamp_of_last(&self.kept)
+    }
+
+    /// How many entries there are.
+    pub fn entries(&self) -> usize
+        ensures { result ≡ length self.now.history }
+    {
+        count_entries(&self.kept)
     }
 }
 
-/// The entry that the request becomes.
-fn planned(worker: u8, ask: Ask, stamp: u64, decision: Decision) -> Planned
-    ensures entry { result.entry ≡ record { station = ask.station; number = ask.number; worker = worker; stamp = stamp; operator = ask.operator; deed = ask.deed; drawn = decision.drawn } }
-    ensures reply { result.reply ≡ decision.reply }
-    ensures draw { result.draw ≡ decision.draw }
+/// The stamp of the last entry, 0 where there is none.
+pub(crate) fn stamp_of_last(kept: &[Kept]) -> u64
+    ensures { (told : _) → result ≡ last_stamp (history_in told kept.now) }
 {
-    Planned {
-        entry: Entry {
-            station: ask.station,
-            number: ask.number,
-            worker,
-            stamp,
-            operator: ask.operator,
-            deed: ask.deed,
-            drawn: decision.drawn,
-        },
-        reply: decision.reply,
-        draw: decision.draw,
+    match kept.last() {
+        Some(last) => last.stamp,
+        None => 0,
     }
 }
 
-/// Draws what was planned, if there is a draw.
-fn commit_draw(pool: &mut Pool, draw: Option<DrawPlan>)
-    requires may { MayCommit pool.old.drawn draw }
-    requires room { HasRoomToDraw pool.old draw }
-    ensures { pool.new.drawn ≡ pool.old.drawn ++ drawn_by_plan draw }
+/// How many entries there are.
+pub(crate) fn count_entries(kept: &[Kept]) -> usize
+    ensures is { (told : _) → result ≡ length (history_in told kept.now) }
+    ensures few { length kept.now + 1 < 2 ^ 64 }
 {
-    match draw {
-        Some(plan) => {
-            let _done = pool.commit_draw(plan);
-        }
-        None => {}
-    }
-}
-
-/// How many entries the station has.
-fn own_count(history: &[Entry], station: StationId) -> usize
-    ensures { result ≡ count_by (λ entry. nat_eq entry.station station) history.now }
-{
-    history
-        .iter()
-        .filter(|entry| entry.station.0 == station.0)
-        .count()
+    kept.len()
 }

@@ -12,8 +12,3 @@ pub use expiry::{last_day, read_expiry};
 pub use fault::{FileFault, Word};
 pub use orders::read_orders;
 pub use site::read_site;
-
-#[cfg(test)]
-mod site_tests;
-#[cfg(test)]
-mod tests;

@@ -25,6 +25,3 @@ pub use kind::Kind;
 pub use laws::{faults_stay, one_talk, requests_stay};
 pub use put::put_answer;
 pub use session::{Session, all_of};
-
-#[cfg(test)]
-mod tests;

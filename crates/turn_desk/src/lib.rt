@@ -20,6 +20,3 @@ pub use desk::Desk;
 pub use pass::Pass;
 pub use stands::{Job, Stands};
 pub use view::{Noted, Origin};
-
-#[cfg(test)]
-mod tests;

@@ -1,4 +1,4 @@
-use Rattle.std.proofs.Common.{◌≡◌, true, false, length, sym, subst, ◌∙◌, All}
+use Rattle.std.proofs.Common.{length, sym, subst, ◌∙◌, All}
 use Rattle.std.proofs.lemmas.Option.{slice_get_within}
 use Rattle.pack_tree.specs.Packing.{IsThereIn}
 use Rattle.batch_book.specs.Content.{content_of}

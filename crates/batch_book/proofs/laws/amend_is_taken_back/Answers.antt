@@ -1,4 +1,4 @@
-use Rattle.std.proofs.Common.{◌≡◌, ◌<◌, List, length, sym, ap, subst, ◌∙◌}
+use Rattle.std.proofs.Common.{◌<◌, List, length, sym, ap, subst, ◌∙◌}
 use Rattle.deed_words.specs.declared.world.Batch.{Batch}
 use Rattle.batch_book.specs.Batches.{with_quantity, amended}
 use Rattle.batch_book.proofs.Named.{length_changed, amended_back, amended_open}

@@ -1,4 +1,4 @@
-use Rattle.std.proofs.Common.{◌≡◌, Some, sym, ap, ◌∙◌}
+use Rattle.std.proofs.Common.{Some, sym, ap, ◌∙◌}
 use Rattle.deed_words.specs.Names.{same}
 use Rattle.deed_words.specs.declared.rule.Finding.TheVariants.{DeclaredDiffers}
 use Rattle.item_store.specs.Rows.{line_counts_of}

@@ -1,7 +1,6 @@
-use Rattle.std.proofs.Common.{◌≡◌, ℕ, ◌<◌, ◌∷◌, List, Option, length, Some, refl, sym, ap, subst, ◌∙◌}
-use Rattle.std.specs.List.{slice_get}
+use Rattle.std.proofs.Common.{ℕ, ◌∷◌, List, Some, sym, ap, subst, ◌∙◌}
 use Rattle.batch_book.specs.Closing.{shows, is_shown}
-use Rattle.batch_book.proofs.Walked.{IsWalked, walk_begins, walk_there, walk_found, walk_missed, walk_ends}
+use Rattle.batch_book.proofs.Walked.{IsWalked, walk_there, walk_found, walk_missed, walk_ends}
 use Rattle.batch_book.proofs.packed.first_unit.Goals as goal
 
 pub unit-row-requires : goal.unit-row-requires

@@ -1,4 +1,4 @@
-use Rattle.std.proofs.Common.{◌≡◌, ◌∙◌, sym, ap₂, subst}
+use Rattle.std.proofs.Common.{◌∙◌, sym, ap₂, subst}
 use Rattle.packsite.specs.declared.lines.Line.{Line}
 use Rattle.packsite.specs.Lines.{IsHeld}
 use Rattle.deed_json.specs.Asked.{asked_of}

@@ -1,12 +1,14 @@
-use Rattle.std.proofs.Common.{◌++◌, [], arith, ◌∙◌, refl, subst}
+use Rattle.std.proofs.Common.{◌++◌, [], false, arith, ◌∙◌, refl, subst}
 use Rattle.std.specs.Io.KnownBytes.{IsAtEnd}
 use Rattle.std.proofs.lemmas.Result.{err_from_is_err_and}
 use Rattle.packsite.specs.Limits.{input_limit}
 use Rattle.deed_words.specs.Setups.{Setup}
 use Rattle.deed_words.specs.History.{IsLawful}
+use Rattle.packsite.specs.declared.lines.Next.{Next}
 use Rattle.packsite.specs.Script.{Told}
 use Rattle.packsite.proofs.Answering.{lawful_none, stands_none}
 use Rattle.packsite.proofs.Going.{start, heard, went_on, no_memory, next_failed, finished, gave_up, if_true, if_false, some_more, nearer}
+use Rattle.packsite.proofs.Causing.{no_cause, read_carried, write_carried, reads_no_write, serves_no_read}
 use Rattle.packsite.proofs.run.run.Goals as goal
 
 pub returns-in_err-site-clause-ran : goal.returns-in_err-site-clause-ran
@@ -94,3 +96,37 @@ lines-preserved g c =
       read_faults = c.in_ok-line.ensures.cause.kept ∙ c.lines.invariant.read_faults;
       write_faults = c.in_ok-serve_line.ensures.write.kept ∙ c.lines.invariant.write_faults;
     }
+
+pub returns-in_err-lines-clause-read : goal.returns-in_err-lines-clause-read
+returns-in_err-lines-clause-read g c =
+    let p = err_from_is_err_and c.from_residual-in_err-lines.result c.from_residual-in_err-lines.ensures.1 in
+    rw (p.1, p.2) (no_cause false _ _ refl refl)
+
+pub returns-in_err-lines-clause-write : goal.returns-in_err-lines-clause-write
+returns-in_err-lines-clause-write g c =
+    let p = err_from_is_err_and c.from_residual-in_err-lines.result c.from_residual-in_err-lines.ensures.1 in
+    rw (p.1, p.2) (no_cause false _ _ refl refl)
+
+pub returns-in_err-line-clause-read : goal.returns-in_err-line-clause-read
+returns-in_err-line-clause-read g c =
+    let p = err_from_is_err_and c.from_residual-in_err-line.result c.from_residual-in_err-line.ensures.1 in
+    rw (p.1, p.2) (read_carried Next (Unit {0}) c.in_err-line.field-0.0 _ _ _ c.lines.invariant.read_faults c.in_err-line.ensures.cause)
+
+pub returns-in_err-line-clause-write : goal.returns-in_err-line-clause-write
+returns-in_err-line-clause-write g c =
+    let e = c.in_err-line.ensures.line in
+    let p = err_from_is_err_and c.from_residual-in_err-line.result c.from_residual-in_err-line.ensures.1 in
+    rw (p.1, p.2) (no_cause _ _ _ (reads_no_write (Unit {0}) (c.lines.lines.pending ++ e.0) c.in_err-line.field-0.0 c.next.new.self _ e.2.1) c.lines.invariant.write_faults)
+
+pub returns-in_err-serve_line-clause-read : goal.returns-in_err-serve_line-clause-read
+returns-in_err-serve_line-clause-read g c =
+    let e = c.in_ok-line.ensures.line in
+    let line = e.2.1.0 in
+    let p = err_from_is_err_and c.from_residual-in_err-serve_line.result c.from_residual-in_err-serve_line.ensures.1 in
+    let none = serves_no_read (Unit {0}) (Unit {0}) _ _ _ _ _ _ _ _ _ c.in_err-serve_line.field-0.0 _ (c.in_err-serve_line.ensures.serves line.text line.held) in
+    rw (p.1, p.2) (no_cause _ _ _ none (c.in_ok-line.ensures.cause.kept ∙ c.lines.invariant.read_faults))
+
+pub returns-in_err-serve_line-clause-write : goal.returns-in_err-serve_line-clause-write
+returns-in_err-serve_line-clause-write g c =
+    let p = err_from_is_err_and c.from_residual-in_err-serve_line.result c.from_residual-in_err-serve_line.ensures.1 in
+    rw (p.1, p.2) (write_carried (Unit {0}) (Unit {0}) c.in_err-serve_line.field-0.0 _ _ _ c.lines.invariant.write_faults c.in_err-serve_line.ensures.write)

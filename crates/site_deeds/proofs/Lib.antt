@@ -1,0 +1,13 @@
+pub mod Shared
+pub mod FromRules
+pub mod Serials
+pub mod Drawable
+pub mod OfBatch
+pub mod OfLoan
+pub mod OfOrders
+pub mod OfPacking
+pub mod OfUnit
+pub mod OfRows
+pub mod OfDraw
+pub mod OfDecision
+pub mod OfDeed

@@ -1,0 +1,56 @@
+//! Whether a deed may be done.
+ghost use Rattle.std.specs.Prelude.{◌≡◌, IfOk};
+ghost use Rattle.batch_book.specs.Content.{world_in};
+ghost use Rattle.site_rules.specs.Asked.{IsDrawnCount};
+ghost use Rattle.site_deeds.specs.Verdicts.{IsJudged};
+ghost use Rattle.site_deeds.specs.Draws.{drawn_in};
+
+use deed_words::{Deed, Rule, Setup, StationId};
+use gs1_keys::Memory;
+use pack_tree::Node;
+use serial_pool::Pool;
+use site_rules::{ask, broken, make_names};
+use site_stores::Stores;
+use std::alloc::Global;
+
+/// Whether a deed may be done.
+#[derive(Drop)]
+pub(crate) enum Judged {
+    /// It breaks this rule.
+    Breaks(Rule),
+    /// It breaks none, and the things that it names are at these places.
+    Allowed(Vec<Option<Node>>),
+}
+
+/// How many serials are drawn of the GTIN of a draw's batch; 0 for any other deed.
+fn count_drawn(stores: &Stores, pool: &Pool, deed: &Deed) -> u32
+    requires pool { pool.now.drawn ≡ drawn_in (world_in stores.now.content) }
+    ensures { IsDrawnCount stores.now.content deed.now result }
+{
+    let Deed::Draw(name, _) = deed else { return 0 };
+    match stores.batch(name) {
+        Some(batch) => pool.drawn(&batch.order.gtin),
+        None => 0,
+    }
+}
+
+/// Looks for the rule that the deed breaks first.
+pub(crate) fn judge(
+    alloc: Global,
+    setup: &Setup,
+    stores: &Stores,
+    pool: &Pool,
+    station: StationId,
+    deed: &Deed,
+) -> Result<Judged, Memory>
+    requires pool { pool.now.drawn ≡ drawn_in (world_in stores.now.content) }
+    ensures { IfOk result (λ judged. IsJudged setup.now stores.now.content station deed.now judged) }
+{
+    let made = make_names(alloc, stores, deed)?;
+    let drawn = count_drawn(stores, pool, deed);
+    let asked = ask(alloc, setup, stores, station, deed, &made, drawn)?;
+    match broken(&asked) {
+        Some(rule) => Ok(Judged::Breaks(rule)),
+        None => Ok(Judged::Allowed(asked.places)),
+    }
+}

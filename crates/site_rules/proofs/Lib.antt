@@ -1,0 +1,7 @@
+pub mod Tabled
+pub mod Ranges
+pub mod Ordered
+pub mod Fitness
+pub mod Naming
+pub mod Placed
+pub mod Elses

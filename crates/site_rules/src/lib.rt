@@ -1,0 +1,26 @@
+//! Which rule of the trade a deed breaks first.
+//!
+//! The rules that a deed is under are data: a list of tests. Each test is a function of its own, over the stores, and
+//! answers what the trade's own words say of the world that the stores hold. Names are looked up once, before the
+//! first test, and no test takes memory.
+#![tactic(auto)]
+
+mod accounts;
+mod asked;
+mod asking;
+mod batches;
+mod checks;
+mod counts;
+mod moves;
+mod orders;
+mod places;
+mod table;
+mod telling;
+mod things;
+mod units;
+
+pub use asked::Asked;
+pub use asking::{ask, make_names};
+pub use moves::moved;
+pub use table::Test;
+pub use telling::broken;

@@ -1,0 +1,264 @@
+//! The rules on the things that a deed names.
+ghost use Rattle.std.specs.Prelude.{◌≡◌, ℕ, true, map, nat_eq};
+ghost use Rattle.deed_words.specs.Chain.{each, holds_of};
+ghost use Rattle.deed_words.specs.World.{batch_of};
+ghost use Rattle.deed_words.specs.Deeds.{batch_named, item_of};
+ghost use Rattle.deed_words.specs.Tests.{strays, repeated, unknown_serial, other_batch, fits_order, misfits, wrong_level, wrong_state, lent_to_other, has_parent, not_child};
+ghost use Rattle.deed_words.specs.Setups.{Setup};
+ghost use Rattle.deed_words.specs.declared.deed.Deed.TheVariants.{Container as MakeUnit};
+ghost use Rattle.batch_book.specs.Content.{world_in};
+ghost use Rattle.site_stores.specs.Places.{place_of};
+ghost use Rattle.site_rules.specs.Asked.{IsAsked};
+ghost use Rattle.site_rules.specs.Rows.{stray};
+ghost use Rattle.site_rules.specs.Suits.{is_about_batch, is_about_unit, names_unit};
+
+use crate::asked::Asked;
+use crate::batches::{batch_name, unit_for, unit_named};
+use crate::checks::{AtHome, Fitting, Inside, Known, Lent, Loose, Standing, first_of};
+use crate::orders::same_expiry;
+use crate::places::is_of;
+use deed_words::{Batch, Deed, Level, Rule, same_text};
+use epc_urn::Epc;
+use gs1_element::Code;
+use gs1_keys::Text20;
+use pack_tree::Node;
+use site_stores::Stores;
+
+/// A thing is named twice.
+#[tactic(auto, unfolding(deed_words::specs::Tests::repeated))]
+pub(crate) fn repeated(asked: &Asked) -> Option<Rule>
+    requires asked { IsAsked asked.now.stores.now.content asked.now.deed.now asked.now.names.now asked.now.places.items asked.now.repeat }
+    ensures { result ≡ repeated asked.now.setup.now (world_in asked.now.stores.now.content) asked.now.station asked.now.deed.now }
+{
+    match asked.repeat {
+        Some(at) => Some(Rule::RepeatedInRequest(at as u64)),
+        None => None,
+    }
+}
+
+/// A thing isn't known.
+#[tactic(auto, unfolding(deed_words::specs::Tests::unknown_serial))]
+pub(crate) fn unknown_serial(asked: &Asked) -> Option<Rule>
+    requires asked { IsAsked asked.now.stores.now.content asked.now.deed.now asked.now.names.now asked.now.places.items asked.now.repeat }
+    ensures { result ≡ unknown_serial asked.now.setup.now (world_in asked.now.stores.now.content) asked.now.station asked.now.deed.now }
+{
+    let check = Known {
+        stores: asked.stores,
+        deed: asked.deed,
+    };
+    first_of(&check, asked.names, asked.places.as_slice())
+}
+
+/// A thing is in a state that doesn't allow the deed.
+#[tactic(auto, unfolding(deed_words::specs::Tests::wrong_state))]
+pub(crate) fn wrong_state(asked: &Asked) -> Option<Rule>
+    requires asked { IsAsked asked.now.stores.now.content asked.now.deed.now asked.now.names.now asked.now.places.items asked.now.repeat }
+    ensures { result ≡ wrong_state asked.now.setup.now (world_in asked.now.stores.now.content) asked.now.station asked.now.deed.now }
+{
+    let check = Standing {
+        stores: asked.stores,
+        deed: asked.deed,
+    };
+    first_of(&check, asked.names, asked.places.as_slice())
+}
+
+/// An item was lent to another line.
+#[tactic(auto, unfolding(deed_words::specs::Tests::lent_to_other))]
+pub(crate) fn lent_to_other(asked: &Asked) -> Option<Rule>
+    requires asked { IsAsked asked.now.stores.now.content asked.now.deed.now asked.now.names.now asked.now.places.items asked.now.repeat }
+    ensures { result ≡ lent_to_other asked.now.setup.now (world_in asked.now.stores.now.content) asked.now.station asked.now.deed.now }
+{
+    let check = Lent {
+        stores: asked.stores,
+        station: asked.station,
+    };
+    first_of(&check, asked.names, asked.places.as_slice())
+}
+
+/// A thing stands in a unit.
+#[tactic(auto, unfolding(deed_words::specs::Tests::has_parent))]
+pub(crate) fn has_parent(asked: &Asked) -> Option<Rule>
+    requires asked { IsAsked asked.now.stores.now.content asked.now.deed.now asked.now.names.now asked.now.places.items asked.now.repeat }
+    ensures { result ≡ has_parent asked.now.setup.now (world_in asked.now.stores.now.content) asked.now.station asked.now.deed.now }
+{
+    match asked.deed {
+        Deed::Unseal(unit) => match asked.stores.parent(&Epc::Unit(*unit)) {
+            Some(sscc) => Some(Rule::HasParent(0, sscc)),
+            None => None,
+        },
+        _ => {
+            let check = Loose {
+                stores: asked.stores,
+            };
+            first_of(&check, asked.names, asked.places.as_slice())
+        }
+    }
+}
+
+/// A thing doesn't stand in the unit.
+#[tactic(auto, unfolding(deed_words::specs::Tests::not_child))]
+pub(crate) fn not_child(asked: &Asked) -> Option<Rule>
+    requires unit { names_unit asked.now.deed.now ≡ true }
+    requires asked { IsAsked asked.now.stores.now.content asked.now.deed.now asked.now.names.now asked.now.places.items asked.now.repeat }
+    ensures { result ≡ not_child asked.now.setup.now (world_in asked.now.stores.now.content) asked.now.station asked.now.deed.now }
+{
+    let Some(unit) = unit_named(asked.deed) else {
+        return None;
+    };
+    let check = Inside {
+        stores: asked.stores,
+        unit,
+    };
+    first_of(&check, asked.names, asked.places.as_slice())
+}
+
+/// Whether pallets are made of the batch of the name.
+#[tactic(auto, unfolding(deed_words::specs::Chain::holds_of))]
+fn is_palletless(stores: &Stores, name: &Text20) -> bool
+    ensures { result ≡ holds_of (λ batch. nat_eq batch.order.pallet_size 0) (batch_of (world_in stores.now.content) name.now) }
+{
+    match stores.batch(name) {
+        Some(batch) => batch.order.pallet_size == 0,
+        None => false,
+    }
+}
+
+/// The batch has no units of the level.
+#[tactic(auto, unfolding(deed_words::specs::Tests::wrong_level, deed_words::specs::Chain::when))]
+fn wrong_new(stores: &Stores, name: &Text20, level: Level) -> Option<Rule>
+    ensures { (site : Setup) (station : ℕ) → result ≡ wrong_level site (world_in stores.now.content) station (MakeUnit name.now level) }
+{
+    match level {
+        Level::Case => None,
+        Level::Pallet => {
+            if is_palletless(stores, name) {
+                return Some(Rule::WrongLevel(0));
+            }
+            None
+        }
+    }
+}
+
+/// A thing doesn't go into a unit of the level.
+#[tactic(auto, unfolding(deed_words::specs::Tests::misfits))]
+fn misfits(asked: &Asked, level: Level) -> Option<Rule>
+    requires asked { IsAsked asked.now.stores.now.content asked.now.deed.now asked.now.names.now asked.now.places.items asked.now.repeat }
+    ensures { result ≡ misfits (world_in asked.now.stores.now.content) level asked.now.names.now }
+{
+    let check = Fitting {
+        stores: asked.stores,
+        level,
+    };
+    first_of(&check, asked.names, asked.places.as_slice())
+}
+
+/// A thing doesn't go into the unit, or the batch has no such units.
+#[tactic(auto, unfolding(deed_words::specs::Tests::wrong_level))]
+pub(crate) fn wrong_level(asked: &Asked) -> Option<Rule>
+    requires about { is_about_unit asked.now.deed.now ≡ true }
+    requires asked { IsAsked asked.now.stores.now.content asked.now.deed.now asked.now.names.now asked.now.places.items asked.now.repeat }
+    ensures { result ≡ wrong_level asked.now.setup.now (world_in asked.now.stores.now.content) asked.now.station asked.now.deed.now }
+{
+    match asked.deed {
+        Deed::Container(name, level) => wrong_new(asked.stores, name, *level),
+        _ => {
+            let Some(unit) = unit_for(asked) else {
+                return None;
+            };
+            misfits(asked, unit.level)
+        }
+    }
+}
+
+/// Whether the code has the lot and the expiry of the order.
+#[tactic(auto, unfolding(deed_words::specs::Tests::fits_order, deed_words::specs::Chain::holds_of))]
+fn fits_order(batch: &Option<Batch>, code: &Code) -> bool
+    ensures { result ≡ fits_order batch.now code.now }
+{
+    match batch {
+        Some(batch) => {
+            same_text(&batch.order.lot, &code.lot) && same_expiry(&batch.order.expiry, &code.expiry)
+        }
+        None => false,
+    }
+}
+
+/// The code at the index isn't of the batch, or not of its order.
+#[tactic(auto, unfolding(deed_words::specs::Chain::when))]
+fn stray(
+    stores: &Stores,
+    name: &Text20,
+    batch: &Option<Batch>,
+    index: u64,
+    code: &Code,
+    place: Option<Node>,
+) -> Option<Rule>
+    requires batch { batch.now ≡ batch_of (world_in stores.now.content) name.now }
+    requires place { place ≡ place_of stores.now.content.rows stores.now.content.units (item_of code.now) }
+    ensures { result ≡ stray (world_in stores.now.content) name.now index code.now }
+{
+    if is_of(stores, name, &Epc::Item(code.gtin, code.serial), place) && fits_order(batch, code) {
+        return None;
+    }
+    Some(Rule::OtherBatch(index))
+}
+
+/// The first code that isn't of the batch, or not of its order.
+fn first_stray(
+    stores: &Stores,
+    name: &Text20,
+    codes: &[Code],
+    places: &[Option<Node>],
+) -> Option<Rule>
+    requires places { places.now ≡ map (place_of stores.now.content.rows stores.now.content.units) (map item_of codes.now) }
+    ensures { result ≡ each codes.now (stray (world_in stores.now.content) name.now) }
+{
+    let batch = stores.batch(name);
+    for (index, code) in codes.iter().enumerate() {
+        if let Some(rule) = stray(stores, name, &batch, index as u64, code, places[index]) {
+            return Some(rule);
+        }
+    }
+    None
+}
+
+/// The first thing that isn't of the batch. None is of a batch with no name.
+#[tactic(auto, unfolding(deed_words::specs::Tests::strays))]
+fn first_foreign(asked: &Asked) -> Option<Rule>
+    requires about { is_about_batch asked.now.deed.now ≡ true }
+    requires asked { IsAsked asked.now.stores.now.content asked.now.deed.now asked.now.names.now asked.now.places.items asked.now.repeat }
+    ensures { result ≡ strays (world_in asked.now.stores.now.content) (batch_named (world_in asked.now.stores.now.content) asked.now.deed.now) asked.now.names.now }
+{
+    asked.stores.tell_whole();
+    let Some(batch) = batch_name(asked) else {
+        if asked.names.is_empty() {
+            return None;
+        }
+        return Some(Rule::OtherBatch(0));
+    };
+    let check = AtHome {
+        stores: asked.stores,
+        batch,
+    };
+    first_of(&check, asked.names, asked.places.as_slice())
+}
+
+/// A thing is of another batch.
+#[tactic(auto, unfolding(deed_words::specs::Tests::other_batch, deed_words::specs::Tests::strays))]
+pub(crate) fn other_batch(asked: &Asked) -> Option<Rule>
+    requires about { is_about_batch asked.now.deed.now ≡ true }
+    requires asked { IsAsked asked.now.stores.now.content asked.now.deed.now asked.now.names.now asked.now.places.items asked.now.repeat }
+    ensures { result ≡ other_batch asked.now.setup.now (world_in asked.now.stores.now.content) asked.now.station asked.now.deed.now }
+{
+    match asked.deed {
+        Deed::Commission(name, codes) => {
+            first_stray(
+                asked.stores,
+                name,
+                codes.as_slice(),
+                asked.places.as_slice(),
+            )
+        }
+        _ => first_foreign(asked),
+    }
+}

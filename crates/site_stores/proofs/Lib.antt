@@ -1,0 +1,15 @@
+pub mod Together
+pub mod Turning
+pub mod Booking
+pub mod RowsDrawn
+pub mod Applying
+pub mod Undoing
+pub mod Worlds
+pub mod Growing
+pub mod Moving
+pub mod Finding
+pub mod Naming
+pub mod Placing
+pub mod Counted
+pub mod Packs
+pub mod Draws
