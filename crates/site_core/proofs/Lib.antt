@@ -4,3 +4,4 @@ mod Drawing
 mod Roomy
 mod Standing
 mod Coming
+pub mod Logs

@@ -5,3 +5,4 @@ pub mod Rooms
 pub mod Standing
 pub mod Trade
 pub mod View
+pub mod Seen

@@ -13,9 +13,11 @@ mod planned;
 mod planning;
 mod site;
 mod unlawful;
+mod views;
 
 pub use laws::{the_first_has_room, the_trade_holds, there_and_back};
 pub use planned::{Committed, Planned};
 pub use site::Site;
 pub use site_deeds::PlanFault;
 pub use unlawful::Unlawful;
+pub use views::{ItemView, Logged, UnitView};

@@ -9,6 +9,7 @@ ghost use Rattle.deed_words.specs.Sound.{IsSound};
 ghost use Rattle.deed_words.specs.Setups.{IsProper};
 ghost use Rattle.deed_words.specs.Stations.{station_of};
 ghost use Rattle.batch_book.specs.Batches.{is_called};
+ghost use Rattle.batch_book.specs.Content.{world_in};
 ghost use Rattle.request_memo.specs.Seeing.{meaning_of};
 ghost use Rattle.site_core.specs.Entries.{history_in};
 
@@ -92,6 +93,7 @@ impl Site {
         ensures proper { All IsProperEntry self.now.history }
         ensures sound { IsSound self.now.setup (world_of self.now.setup self.now.history) }
         ensures world { IsProperWorld self.now.setup (world_of self.now.setup self.now.history) }
+        ensures content { world_in self.now.content ≡ world_of self.now.setup self.now.history }
     {
         soundness_is_kept();
         worlds_are_proper();

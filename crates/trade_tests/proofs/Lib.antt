@@ -1,0 +1,2 @@
+mod Stations
+mod Turning
