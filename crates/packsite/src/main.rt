@@ -1,55 +1,67 @@
-//! Packsite: the serialisation server of a packaging site. `packsite run` answers each line of standard input, a request
-//! of a station in JSON, with one line on standard output.
+//! Packsite: the serialisation server of a packaging site. `packsite init SITE` makes the journal of a site file, and
+//! `packsite run` answers each line of standard input, a request of a station in JSON, with one line on standard output.
+//! The journal is `packsite.journal` in the working folder.
 #![tactic(auto)]
 
-mod answer;
-mod built_in;
-mod fault;
-mod lines;
-mod newline;
-mod put;
-mod run;
-mod top;
-
-use outside::{RandomWords, Reading, Writing, take_standard_streams};
+use outside::{
+    FileDisk, FileSource, RandomWords, Reading, SystemClock, Writing, take_standard_streams,
+};
+use site_console::{Ending, end_with, site_path, site_top};
+use site_store::Devices;
 use std::fs::File;
 use std::process::ExitCode;
 use std::rt::{Env, Files};
+use std::time::Clock;
 use std::{env, fs, io};
-use top::site_top;
 
-/// The status where a word of the command line isn't text.
-const BAD_WORDS: u8 = 2;
+/// The journal, in the working folder.
+const JOURNAL: &str = "packsite.journal";
 
 /// The status where the standard streams can't be had.
 const INPUT_FAULT: u8 = 7;
-
-/// The status where memory is wanting.
-const NO_MEMORY: u8 = 11;
 
 fn main(rt: HostRuntime) -> ExitCode {
     ExitCode::from(run_program(&rt))
 }
 
 /// Runs the program over the real devices.
-fn run_program<R: Env + Input + Print + Files<File = File> + AllocGlobal>(rt: &R) -> u8 {
+fn run_program<R: Env + Input + Print + Files<File = File> + Clock + AllocGlobal>(rt: &R) -> u8 {
     if take_standard_streams(rt).is_err() {
         return INPUT_FAULT;
     }
-    let Ok(all) = env::args(rt) else {
-        return BAD_WORDS;
-    };
-    let mut args = Vec::new(rt.alloc());
-    for word in all.skip(1) {
-        if args.push(word).is_err() {
-            return NO_MEMORY;
-        }
-    }
-    let mut input = Reading::new(rt.reader());
     let mut out = Writing::new(io::writer(rt));
-    let mut words = RandomWords::new(fs::open(rt, "/dev/urandom").ok());
-    site_top(rt.alloc(), &args, &mut input, &mut out, &mut words)
+    let args = match read_words(rt) {
+        Ok(args) => args,
+        Err(ending) => return end_with(&mut out, ending),
+    };
+    let mut site = FileSource::new(site_file(rt, &args));
+    let mut input = Reading::new(rt.reader());
+    let devices = Devices {
+        disk: FileDisk::open(rt, ".", JOURNAL),
+        clock: SystemClock::new(rt),
+        words: RandomWords::new(fs::open(rt, "/dev/urandom").ok()),
+    };
+    let (status, _devices) = site_top(rt.alloc(), &args, &mut site, &mut input, &mut out, devices);
+    status
 }
 
-#[cfg(test)]
-mod tests;
+/// The words behind the program's name, or how the program ends without them.
+fn read_words<R: Env + AllocGlobal>(rt: &R) -> Result<Vec<String>, Ending> {
+    let words = match env::args(rt) {
+        Ok(words) => words,
+        Err(fault) if fault.kind() == io::ErrorKind::OutOfMemory => return Err(Ending::NoMemory),
+        Err(_) => return Err(Ending::BadWords),
+    };
+    let mut args = Vec::new(rt.alloc());
+    for word in words.skip(1) {
+        if args.push(word).is_err() {
+            return Err(Ending::NoMemory);
+        }
+    }
+    Ok(args)
+}
+
+/// The site file of `init SITE`, if it can be opened.
+fn site_file<R: Files<File = File>>(rt: &R, args: &[String]) -> Option<File> {
+    fs::open(rt, site_path(args)?).ok()
+}

@@ -1,0 +1,84 @@
+-- The statuses of the program.
+use Rattle.std.proofs.Common.{◌≡◌, ◌⊎◌, ℕ, List, Option, None, Some, Result, Ok, Err, inl, inr, refl, sym, subst, ◌∙◌, ap}
+use Rattle.std.specs.Prelude.{◌↔◌}
+use Rattle.outside.specs.declared.disk.Disk as disk
+use Rattle.outside.specs.declared.devices.Words as words
+use Rattle.outside.specs.declared.clock.Clock as clock
+use Rattle.site_store.specs.declared.store.Devices.{Devices}
+use Rattle.site_console.specs.declared.command.Command.{Command}
+use Rattle.site_console.specs.declared.command.Command.TheVariants.{Init, Run}
+use Rattle.site_console.specs.declared.ending.Ending.{Ending}
+use Rattle.site_console.specs.declared.ending.Ending.TheVariants.{Done, BadWords, Unreadable, JournalThere, NoJournal, JournalBad, ReadFault, WriteFault, DiskFault, NoMemory, TooLong}
+use Rattle.site_console.specs.declared.fault.Fault.{Fault}
+use Rattle.site_console.specs.declared.fault.Fault.TheVariants.{Read, Write, Memory, InputTooLong}
+use Rattle.site_console.specs.Endings.{status_of, ending_of}
+use Rattle.site_console.specs.Files.{IsWhole}
+use Rattle.site_console.specs.Inits.{InitSession, Unread, Faulty, Opens}
+use Rattle.site_console.specs.Sessions.{RunSession, NotLoaded, RanFrom}
+use Rattle.site_console.specs.Told.{Stream}
+use Rattle.site_console.specs.Top.{IsStatus, Session}
+
+one : (ending : Ending) → IsStatus (status_of ending)
+one Done = inl refl
+one BadWords = inr (inl refl)
+one (Unreadable kind) = inr (inr (inl refl))
+one JournalThere = inr (inr (inr (inl refl)))
+one NoJournal = inr (inr (inr (inr (inl refl))))
+one (JournalBad place) = inr (inr (inr (inr (inr (inl refl)))))
+one ReadFault = inr (inr (inr (inr (inr (inr (inl refl))))))
+one WriteFault = inr (inr (inr (inr (inr (inr (inr (inl refl)))))))
+one DiskFault = inr (inr (inr (inr (inr (inr (inr (inr (inl refl))))))))
+one NoMemory = inr (inr (inr (inr (inr (inr (inr (inr (inr (inl refl)))))))))
+one TooLong = inr (inr (inr (inr (inr (inr (inr (inr (inr (inr refl)))))))))
+
+pub is_status : (ending : Ending) (n : ℕ) → n ≡ status_of ending → IsStatus n
+is_status ending n e = subst IsStatus (sym e) (one ending)
+
+-- 2 is that of bad words alone
+two : (ending : Ending) → status_of ending ≡ 2 → ending ≡ BadWords
+two BadWords e = refl
+two Done e = absurd cc
+two (Unreadable kind) e = absurd cc
+two JournalThere e = absurd cc
+two NoJournal e = absurd cc
+two (JournalBad place) e = absurd cc
+two ReadFault e = absurd cc
+two WriteFault e = absurd cc
+two DiskFault e = absurd cc
+two NoMemory e = absurd cc
+two TooLong e = absurd cc
+
+run_ends : (result : Result (Unit {0}) Fault) → ending_of result ≡ BadWords → ⊥
+run_ends (Ok done) e = cc
+run_ends (Err Read) e = cc
+run_ends (Err Write) e = cc
+run_ends (Err Memory) e = cc
+run_ends (Err InputTooLong) e = cc
+
+module _ {D C W : Type 0} (g : disk.Ghosts D) (k : clock.Ghosts C) (w : words.Ghosts W) where
+  not_run : (old new : Devices D C W) (a b c d : Stream) → NotLoaded g old new a b c d BadWords ⊎ RanFrom g k w old new a b c d BadWords → ⊥
+  not_run old new a b c d (inl loads) = loads.refuses
+  not_run old new a b c d (inr ran) = run_ends ran.result (sym ran.ending_is)
+
+  unread : (old new : Devices D C W) (c d : Stream) → (BadWords ≡ ReadFault) ⊎ (BadWords ≡ NoMemory) → ⊥
+  unread old new c d (inl e) = cc
+  unread old new c d (inr e) = cc
+
+  not_init : (old new : Devices D C W) (left : Option (List ℕ)) (bytes : List ℕ) (c d : Stream) → Unread old new c d BadWords ⊎ (IsWhole left bytes × (Faulty bytes old new c d BadWords ⊎ Opens g bytes old new c d BadWords)) → ⊥
+  not_init old new left bytes c d (inl is) = unread old new c d is.why
+  not_init old new left bytes c d (inr (whole, inl faulty)) = let e = faulty.ending_is in cc
+  not_init old new left bytes c d (inr (whole, inr opens)) = opens.makes.ends
+
+  run_bad : (old new : Devices D C W) (a b c d : Stream) (ending : Ending) → ending ≡ BadWords → RunSession g k w old new a b c d ending → ⊥
+  run_bad old new a b c d ending e s = not_run old new a b c d (subst (λ (x : Ending). NotLoaded g old new a b c d x ⊎ RanFrom g k w old new a b c d x) e s.comes)
+
+  init_bad : (old new : Devices D C W) (a b c d : Stream) (ending : Ending) → ending ≡ BadWords → InitSession g old new a b c d ending → ⊥
+  init_bad old new a b c d ending e s =
+      not_init old new b.bytes s.bytes c d (subst (λ (x : Ending). Unread old new c d x ⊎ (IsWhole b.bytes s.bytes × (Faulty s.bytes old new c d x ⊎ Opens g s.bytes old new c d x))) e s.comes)
+
+  pub bad_words : (command : Option Command) (old new : Devices D C W) (s s' i i' o o' : Stream) (ending : Ending) (n : ℕ) → n ≡ status_of ending → Session g k w command old new s s' i i' o o' ending → (n ≡ 2) ↔ (command ≡ None)
+  bad_words None old new s s' i i' o o' ending n is session = (λ e. refl, λ e. is ∙ ap status_of session.0)
+  bad_words (Some Init) old new s s' i i' o o' ending n is session =
+      (λ e. absurd (init_bad old new s s' o o' ending (two ending (sym is ∙ e)) session.1), λ e. absurd cc)
+  bad_words (Some Run) old new s s' i i' o o' ending n is session =
+      (λ e. absurd (run_bad old new i i' o o' ending (two ending (sym is ∙ e)) session.1), λ e. absurd cc)

@@ -1,0 +1,77 @@
+-- The program's whole session: a command, its ending and status, and the line of its fault.
+use Rattle.std.specs.Prelude.{◌≡◌, ◌≤◌, ◌⊎◌, ℕ, ◌<◌, List, Option, Some, None, IsSomeAnd, length, Ok}
+use Rattle.outside.specs.Devices.{Puts}
+use Rattle.outside.specs.Causes.{Rose}
+use Rattle.outside.specs.declared.disk.Disk as disk
+use Rattle.outside.specs.declared.devices.Words as words
+use Rattle.outside.specs.declared.clock.Clock as clock
+use Rattle.deed_words.specs.Setups.{Setup}
+use Rattle.deed_words.specs.declared.entry.Entry.{Entry}
+use Rattle.gate_journal.specs.Grammar.{IsNone}
+use Rattle.site_store.specs.declared.store.Devices.{Devices}
+use Rattle.site_store.specs.Held.{Held}
+use Rattle.site_console.specs.declared.command.Command.{Command}
+use Rattle.site_console.specs.declared.command.Command.TheVariants.{Init, Run}
+use Rattle.site_console.specs.declared.ending.Ending.{Ending}
+use Rattle.site_console.specs.declared.ending.Ending.TheVariants.{BadWords}
+use Rattle.site_console.specs.Endings.{status_of, fault_line, Tells}
+use Rattle.site_console.specs.Files.{site_of}
+use Rattle.site_console.specs.Inits.{IsIdle, InitSession}
+use Rattle.site_console.specs.Limits.{input_limit}
+use Rattle.site_console.specs.Sessions.{RunSession}
+use Rattle.site_console.specs.Told.{Stream}
+
+-- the statuses of the program
+abbrev pub IsStatus : ℕ → Type 0
+IsStatus n =
+    (n ≡ 0) ⊎ ((n ≡ 2) ⊎ ((n ≡ 3) ⊎ ((n ≡ 4) ⊎ ((n ≡ 5) ⊎ ((n ≡ 6) ⊎ ((n ≡ 7) ⊎ ((n ≡ 8) ⊎ ((n ≡ 9) ⊎ ((n ≡ 11) ⊎ (n ≡ 13))))))))))
+
+-- nothing was read, put or taken
+pub record Spares {D C W : Type 0} (old new : Devices D C W) (site_old site_new input_old input_new out_old out_new : Stream) : Type 0 where
+  pub idle : IsIdle old new out_old out_new
+  pub site : site_new ≡ site_old
+  pub input : input_new ≡ input_old
+
+-- the session of the command that the words say; where they say none, nothing is done
+abbrev pub Session : {D C W : Type 0} (g : disk.Ghosts D) (k : clock.Ghosts C) (w : words.Ghosts W) → Option Command → Devices D C W → Devices D C W → Stream → Stream → Stream → Stream → Stream → Stream → Ending → Type 0
+Session g k w None old new site_old site_new input_old input_new out_old out_new ending =
+    (ending ≡ BadWords) × Spares old new site_old site_new input_old input_new out_old out_new
+Session g k w (Some Init) old new site_old site_new input_old input_new out_old out_new ending =
+    (input_new ≡ input_old) × InitSession g old new site_old site_new out_old out_new ending
+Session g k w (Some Run) old new site_old site_new input_old input_new out_old out_new ending =
+    (site_new ≡ site_old) × RunSession g k w old new input_old input_new out_old out_new ending
+
+-- The session up to `mid` of the output, its status, and the line of its fault behind what it put.
+pub record Top {D C W : Type 0} (g : disk.Ghosts D) (k : clock.Ghosts C) (w : words.Ghosts W) (command : Option Command) (old new : Devices D C W) (site_old site_new input_old input_new out_old out_new : Stream) (status : ℕ) : Type 0 where
+  pub ending : Ending
+  pub mid : Stream
+  pub session : Session g k w command old new site_old site_new input_old input_new out_old mid ending
+  pub is : status ≡ status_of ending
+  pub tells : Puts mid.bytes out_new.bytes (Tells (fault_line ending) mid.faults out_new.faults)
+  pub later : mid.faults ≤ out_new.faults
+
+-- ---- where nothing fails
+
+-- neither the disk nor the source or the sink failed
+pub record NoneFailed (disk_old disk_new source_old source_new sink_old sink_new : ℕ) : Type 0 where
+  pub disk : ¬ (Rose disk_old disk_new)
+  pub source : ¬ (Rose source_old source_new)
+  pub sink : ¬ (Rose sink_old sink_new)
+
+-- the bytes hold a setup with a history
+abbrev pub IsLoadable : List ℕ → Type 0
+IsLoadable bytes = (site : Setup) × (history : List Entry) × Held site history bytes
+
+-- a run whose journal is loadable, and whose input is shorter than the limit
+pub record CanRun (content left : Option (List ℕ)) : Type 0 where
+  pub loadable : IsSomeAnd content IsLoadable
+  pub short : IsSomeAnd left (λ all. length all < input_limit)
+
+-- a site file that says a setup, and a disk without a journal
+pub record CanInit (content left : Option (List ℕ)) : Type 0 where
+  pub none : IsSomeAnd content IsNone
+  pub says : IsSomeAnd left (λ all. (site : Setup) × (site_of all ≡ Ok site))
+
+-- all was done, or memory was wanting
+abbrev pub IsDone : ℕ → Type 0
+IsDone status = (status ≡ 0) ⊎ (status ≡ 11)
