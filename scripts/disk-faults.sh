@@ -1,18 +1,18 @@
 #!/bin/sh
-# Runs a program on a real journal while system calls fail, and looks whether what was answered is kept.
+# Runs packsite on a real journal while system calls fail, and looks whether what was answered is kept.
 #
-#   scripts/disk-faults.sh PROGRAM SITE LINES
+#   scripts/disk-faults.sh PROGRAM [SITE LINES]
 #
-# PROGRAM is the built program. `PROGRAM init SITE` makes the journal of a site file in the working folder, and
-# `PROGRAM run` answers each line of its input with one line, where a line that was answered before is answered as
-# before. LINES is a file of such lines; what was lost shows where a new answer differs, as that of a draw does. It
-# needs strace, which injects the faults, and works in a folder of its own.
+# PROGRAM is the built program, SITE a site file, and LINES a file of requests, of which one draws serials: what was
+# lost shows where a new answer differs, as that of a draw does. Unless they are given, they are those of examples/.
+# It needs strace, which injects the faults, and works in a folder of its own.
 #
 # It is no part of the gate: no proof speaks of a real file.
 set -u
 
-[ $# -eq 3 ] || { sed -n '2,12s/^# \{0,1\}//p' "$0"; exit 2; }
-program=$(realpath "$1") site=$(realpath "$2") lines=$(realpath "$3")
+[ $# -eq 1 ] || [ $# -eq 3 ] || { sed -n '2,10s/^# \{0,1\}//p' "$0"; exit 2; }
+examples=$(dirname "$0")/../examples
+program=$(realpath "$1") site=$(realpath "${2:-$examples/site.toml}") lines=$(realpath "${3:-$examples/orders.jsonl}")
 folder=$(mktemp -d)
 trap 'rm -rf "$folder"' EXIT
 cd "$folder" || exit 2
@@ -108,9 +108,10 @@ for _ in 1 2 3 4 5 6 7 8 9 10; do
     sleep 0.2
 done
 [ -s answers ] || complain "two programs: the first answers nothing"
-"$program" run < "$lines" > second
+"$program" run < "$lines" > second 2> why
 [ $? -eq 9 ] || complain "two programs: the second isn't refused"
-grep -qx 'disk fault' second || complain "two programs: the second doesn't say why"
+grep -qx 'disk fault' second || complain "two programs: the second doesn't tell it"
+grep -q 'packsite.journal is in use' why || complain "two programs: the second doesn't say why"
 kill -9 "$first"
 wait "$first" 2> /dev/null
 exec 3>&-

@@ -1,7 +1,8 @@
 //! The commands over devices in memory: each test says the whole input and the whole output.
 
+use crate::small_pieces::{DropsSink, DropsSource};
 use outside::{MemoryClock, MemoryDisk, MemorySink, MemorySource, MemoryWords};
-use site_console::{Command, read_command, site_path, site_top};
+use site_console::{site_path, site_top};
 use site_store::Devices;
 use std::alloc::Global;
 use std::process::Abort;
@@ -28,6 +29,8 @@ const NEW: &[u8] = b"{\"already\":0,\"new\":1,\"ok\":true}\n";
 
 const FIVE_AND_SEVEN: &[u8] = b"{\"ok\":true,\"serials\":[\"000005\",\"000007\"]}\n";
 
+const BAD_LINE: &[u8] = b"{\"fault\":\"BadLine\",\"ok\":false}\n";
+
 const MOMENT: u64 = 1_767_225_600_000;
 
 /// Words of which the first is past the last whole block, and the third stands for the serial of the second.
@@ -41,17 +44,23 @@ struct Left {
     disk: Vec<u8>,
 }
 
-/// A run of the program: its words, its files, its disk, and the calls of the disk and the clock that fail.
-#[derive(Drop)]
-struct Asked<'a> {
-    words: &'a [&'a str],
-    site: &'a [u8],
-    input: &'a [u8],
-    disk: &'a [u8],
-    draws: &'a [u64],
-    failing_disk: &'a [u64],
-    failing_clock: &'a [u64],
+/// The calls of each device that fail, by their numbers.
+#[derive(Clone, Copy)]
+struct Failing<'a> {
+    takes: &'a [u64],
+    puts: &'a [u64],
+    disk: &'a [u64],
+    clock: &'a [u64],
+    words: &'a [u64],
 }
+
+const NOTHING: Failing = Failing {
+    takes: &[],
+    puts: &[],
+    disk: &[],
+    clock: &[],
+    words: &[],
+};
 
 fn list<T: Copy + Drop>(rt: &impl Abort, alloc: Global, items: &[T]) -> Vec<T> {
     items.to_vec(alloc).expect(rt, "memory")
@@ -74,23 +83,38 @@ fn args_of(rt: &impl Abort, alloc: Global, words: &[&str]) -> Vec<String> {
     args
 }
 
-fn run_program(rt: &impl Abort, alloc: Global, asked: &Asked) -> Left {
-    let args = args_of(rt, alloc, asked.words);
-    let mut site = MemorySource::new(list(rt, alloc, asked.site), Vec::new(alloc));
-    let mut input = MemorySource::new(list(rt, alloc, asked.input), Vec::new(alloc));
-    let mut out = MemorySink::new(alloc, Vec::new(alloc));
-    let devices = Devices {
-        disk: MemoryDisk::new(
-            alloc,
-            list(rt, alloc, asked.disk),
-            list(rt, alloc, asked.failing_disk),
-        ),
+/// A disk of these bytes, a clock that stands at this moment, and random words.
+fn devices(
+    rt: &impl Abort,
+    alloc: Global,
+    disk: &[u8],
+    moment: u64,
+    draws: &[u64],
+    failing: Failing,
+) -> Devices<MemoryDisk, MemoryClock, MemoryWords> {
+    Devices {
+        disk: MemoryDisk::new(alloc, list(rt, alloc, disk), list(rt, alloc, failing.disk)),
         clock: MemoryClock::new(
-            list(rt, alloc, &[MOMENT; 8]),
-            list(rt, alloc, asked.failing_clock),
+            list(rt, alloc, &[moment; 8]),
+            list(rt, alloc, failing.clock),
         ),
-        words: MemoryWords::new(list(rt, alloc, asked.draws), Vec::new(alloc)),
-    };
+        words: MemoryWords::new(list(rt, alloc, draws), list(rt, alloc, failing.words)),
+    }
+}
+
+/// The program with these words. Its site file and its input have the same bytes, of which it reads one.
+fn program(
+    rt: &impl Abort,
+    alloc: Global,
+    words: &[&str],
+    bytes: &[u8],
+    devices: Devices<MemoryDisk, MemoryClock, MemoryWords>,
+    failing: Failing,
+) -> Left {
+    let args = args_of(rt, alloc, words);
+    let mut site = MemorySource::new(list(rt, alloc, bytes), list(rt, alloc, failing.takes));
+    let mut input = MemorySource::new(list(rt, alloc, bytes), list(rt, alloc, failing.takes));
+    let mut out = MemorySink::new(alloc, list(rt, alloc, failing.puts));
     let (status, devices) = site_top(alloc, &args, &mut site, &mut input, &mut out, devices);
     Left {
         status,
@@ -100,25 +124,19 @@ fn run_program(rt: &impl Abort, alloc: Global, asked: &Asked) -> Left {
 }
 
 /// `init` with this site file on this disk.
-fn init(rt: &impl Abort, alloc: Global, site: &[u8], disk: &[u8]) -> Left {
-    run_program(
-        rt,
-        alloc,
-        &Asked {
-            words: &["init", "e1.toml"],
-            site,
-            input: b"",
-            disk,
-            draws: &[],
-            failing_disk: &[],
-            failing_clock: &[],
-        },
-    )
+fn init(rt: &impl Abort, alloc: Global, site: &[u8], disk: &[u8], failing: Failing) -> Left {
+    let devices = devices(rt, alloc, disk, MOMENT, &[], failing);
+    program(rt, alloc, &["init", "e1.toml"], site, devices, failing)
+}
+
+/// The journal of the example site.
+fn made(rt: &impl Abort, alloc: Global) -> Vec<u8> {
+    init(rt, alloc, E1, b"", NOTHING).disk
 }
 
 /// `run` over these lines on this disk, with these random words.
 fn run(rt: &impl Abort, alloc: Global, disk: &[u8], input: &[u8], draws: &[u64]) -> Left {
-    run_failing(rt, alloc, disk, input, draws, &[], &[])
+    run_failing(rt, alloc, disk, input, draws, NOTHING)
 }
 
 fn run_failing(
@@ -127,163 +145,309 @@ fn run_failing(
     disk: &[u8],
     input: &[u8],
     draws: &[u64],
-    failing_disk: &[u64],
-    failing_clock: &[u64],
+    failing: Failing,
 ) -> Left {
-    run_program(
-        rt,
-        alloc,
-        &Asked {
-            words: &["run"],
-            site: b"",
-            input,
-            disk,
-            draws,
-            failing_disk,
-            failing_clock,
-        },
-    )
+    let devices = devices(rt, alloc, disk, MOMENT, draws, failing);
+    program(rt, alloc, &["run"], input, devices, failing)
+}
+
+/// The run ended so, and put this.
+fn expect_left(rt: &impl Abort, left: &Left, status: u8, put: &[u8]) {
+    assert!(rt; left.status == status);
+    assert!(rt; left.put.as_slice() == put);
 }
 
 #[test]
 fn a_site_file_becomes_a_journal_once(rt: HostRuntime) {
     let alloc = rt.alloc();
-    let made = init(&rt, alloc, E1, b"");
-    assert_eq!(rt; made.put.as_slice(), b"ready\n".as_slice());
-    assert_eq!(rt; made.status, 0);
-    let again = init(&rt, alloc, E1, &made.disk);
-    assert_eq!(rt; again.put.as_slice(), b"journal there\n".as_slice());
-    assert_eq!(rt; again.status, 4);
-    assert!(rt; again.disk == made.disk);
+    let first = init(&rt, alloc, E1, b"", NOTHING);
+    expect_left(&rt, &first, 0, b"ready\n");
+    let again = init(&rt, alloc, E1, &first.disk, NOTHING);
+    expect_left(&rt, &again, 4, b"journal there\n");
+    assert!(rt; again.disk == first.disk);
 }
 
 #[test]
 fn a_run_goes_on_where_it_was_left(rt: HostRuntime) {
     let alloc = rt.alloc();
-    let made = init(&rt, alloc, E1, b"");
     let lines = joined(&rt, alloc, &[ORDER, DRAW]);
-    let first = run(&rt, alloc, &made.disk, &lines, &WORDS);
-    assert_eq!(rt; first.status, 0);
-    assert!(rt; first.put == joined(&rt, alloc, &[NEW, FIVE_AND_SEVEN]));
+    let answers = joined(&rt, alloc, &[NEW, FIVE_AND_SEVEN]);
+    let first = run(&rt, alloc, &made(&rt, alloc), &lines, &WORDS);
+    expect_left(&rt, &first, 0, &answers);
     // the same lines again: the same answers, and nothing more is written
     let again = run(&rt, alloc, &first.disk, &lines, &[1, 2]);
-    assert_eq!(rt; again.status, 0);
-    assert!(rt; again.put == first.put);
+    expect_left(&rt, &again, 0, &answers);
     assert!(rt; again.disk == first.disk);
-    assert_eq!(rt; first.disk.len(), 217);
+    assert!(rt; first.disk.len() == 217);
     // a draw that finds no new serial isn't kept, and the same number may be used again
     let spent = run(&rt, alloc, &first.disk, DRAW_ONE, &[5; 68]);
-    let none: &[u8] = b"{\"fault\":\"WordsSpent\",\"found\":0,\"ok\":false}\n";
-    assert_eq!(rt; spent.put.as_slice(), none);
+    expect_left(
+        &rt,
+        &spent,
+        0,
+        b"{\"fault\":\"WordsSpent\",\"found\":0,\"ok\":false}\n",
+    );
     let nine = run(&rt, alloc, &spent.disk, DRAW_ONE, &[9]);
-    let drawn: &[u8] = b"{\"ok\":true,\"serials\":[\"000009\"]}\n";
-    assert_eq!(rt; nine.put.as_slice(), drawn);
+    expect_left(&rt, &nine, 0, b"{\"ok\":true,\"serials\":[\"000009\"]}\n");
+}
+
+#[test]
+fn pieces_may_be_small(rt: HostRuntime) {
+    let alloc = rt.alloc();
+    // the last line has no newline
+    let lines = joined(&rt, alloc, &[ORDER, b"\nzz\n", DRAW, b"{"]);
+    let args = args_of(&rt, alloc, &["run"]);
+    let devices = devices(&rt, alloc, &made(&rt, alloc), MOMENT, &WORDS, NOTHING);
+    let mut site = MemorySource::new(Vec::new(alloc), Vec::new(alloc));
+    let mut input = DropsSource::new(alloc, lines);
+    let mut out = DropsSink::new(alloc);
+    let (status, _) = site_top(alloc, &args, &mut site, &mut input, &mut out, devices);
+    assert!(rt; status == 0);
+    assert!(rt;
+        out.bytes() == joined(&rt, alloc, &[NEW, BAD_LINE, FIVE_AND_SEVEN, BAD_LINE]).as_slice()
+    );
+}
+
+#[test]
+fn what_is_not_kept_is_told(rt: HostRuntime) {
+    let alloc = rt.alloc();
+    let ordered = run(&rt, alloc, &made(&rt, alloc), ORDER, &[]).disk;
+    let rows: [(&[u8], &[u8]); 6] = [
+        (b"\xff", BAD_LINE),
+        (
+            b"{\"station\":\"P1\",\"number\":2.0,\"deed\":{\"do\":\"close\",\"batch\":\"B6\"}}",
+            BAD_LINE,
+        ),
+        (
+            b"{\"station\":\"X\",\"number\":1,\"deed\":{\"do\":\"close\",\"batch\":\"B6\"}}",
+            b"{\"fault\":\"NoStation\",\"ok\":false}\n",
+        ),
+        (
+            b"{\"station\":\"P1\",\"number\":2,\"deed\":{\"do\":\"close\"}}",
+            b"{\"code\":2,\"fault\":\"BadDeed\",\"name\":\"batch\",\"ok\":false}\n",
+        ),
+        (
+            b"{\"station\":\"P1\",\"number\":9,\"deed\":{\"do\":\"close\",\"batch\":\"B6\"}}",
+            b"{\"fault\":\"NumberGap\",\"last\":1,\"ok\":false}\n",
+        ),
+        (
+            b"{\"station\":\"P1\",\"number\":1,\"deed\":{\"do\":\"close\",\"batch\":\"B6\"}}",
+            b"{\"fault\":\"NumberReused\",\"ok\":false}\n",
+        ),
+    ];
+    for (line, answer) in rows {
+        let left = run(&rt, alloc, &ordered, line, &[]);
+        expect_left(&rt, &left, 0, answer);
+        assert!(rt; left.disk == ordered);
+    }
+}
+
+/// Blanks, and behind them the order.
+fn far_order(rt: &impl Abort, alloc: Global, blanks: usize) -> Vec<u8> {
+    let mut line = Vec::new(alloc);
+    line.resize(blanks, b' ').expect(rt, "memory");
+    line.extend_from_slice(ORDER).expect(rt, "memory");
+    line
+}
+
+#[test]
+fn a_line_has_at_most_1_048_576_bytes(rt: HostRuntime) {
+    let alloc = rt.alloc();
+    let journal = made(&rt, alloc);
+    let longest = far_order(&rt, alloc, 1_048_577 - ORDER.len());
+    expect_left(&rt, &run(&rt, alloc, &journal, &longest, &[]), 0, NEW);
+    // it is read to its end, and the next line is answered
+    let longer = far_order(&rt, alloc, 1_048_578 - ORDER.len());
+    let lines = joined(&rt, alloc, &[&longer, ORDER]);
+    let answers = joined(
+        &rt,
+        alloc,
+        &[b"{\"fault\":\"LineTooLong\",\"ok\":false}\n", NEW],
+    );
+    expect_left(&rt, &run(&rt, alloc, &journal, &lines, &[]), 0, &answers);
 }
 
 #[test]
 fn a_fault_of_the_disk_is_mended(rt: HostRuntime) {
     let alloc = rt.alloc();
-    let made = init(&rt, alloc, E1, b"");
+    let journal = made(&rt, alloc);
     // a load makes so many calls; the third call of the append behind them fails
     let lines = joined(&rt, alloc, &[ORDER, ORDER]);
     let fault: &[u8] = b"{\"fault\":\"DiskFault\",\"ok\":false}\n";
-    let calls = calls_of_a_load(&rt, alloc, &made.disk);
-    let left = run_failing(
-        &rt,
-        alloc,
-        &made.disk,
-        &lines,
-        &[],
-        &[calls.saturating_add(3)],
-        &[],
-    );
-    assert_eq!(rt; left.status, 0);
-    assert!(rt; left.put == joined(&rt, alloc, &[fault, NEW]));
+    let calls = calls_of_a_load(&rt, alloc, &journal);
+    let third = [calls.saturating_add(3)];
+    let failing = Failing {
+        disk: &third,
+        ..NOTHING
+    };
+    let left = run_failing(&rt, alloc, &journal, &lines, &[], failing);
+    expect_left(&rt, &left, 0, &joined(&rt, alloc, &[fault, NEW]));
     let again = run(&rt, alloc, &left.disk, ORDER, &[]);
-    assert_eq!(rt; again.put.as_slice(), NEW);
+    expect_left(&rt, &again, 0, NEW);
 }
 
-/// How many calls of the disk a load makes: the least n of which none fails.
+/// How many calls of the disk a load makes: the least n of which none fails. Where one does, the program says so.
 fn calls_of_a_load(rt: &impl Abort, alloc: Global, disk: &[u8]) -> u64 {
     for n in 1..64 {
-        if run_failing(rt, alloc, disk, b"", &[], &[n], &[]).status == 0 {
+        let nth = [n];
+        let failing = Failing {
+            disk: &nth,
+            ..NOTHING
+        };
+        let left = run_failing(rt, alloc, disk, ORDER, &[], failing);
+        if left.status == 0 {
             return n - 1;
         }
+        expect_left(rt, &left, 9, b"disk fault\n");
     }
     0
 }
 
 #[test]
-fn a_fault_of_the_clock_is_told(rt: HostRuntime) {
+fn faults_of_the_clock_and_of_words_are_told(rt: HostRuntime) {
     let alloc = rt.alloc();
-    let made = init(&rt, alloc, E1, b"");
-    let lines = joined(&rt, alloc, &[ORDER, ORDER]);
-    let left = run_failing(&rt, alloc, &made.disk, &lines, &[], &[], &[1]);
+    let journal = made(&rt, alloc);
+    let orders = joined(&rt, alloc, &[ORDER, ORDER]);
+    let failing = Failing {
+        clock: &[1],
+        ..NOTHING
+    };
+    let left = run_failing(&rt, alloc, &journal, &orders, &[], failing);
     let fault: &[u8] = b"{\"fault\":\"ClockFault\",\"ok\":false}\n";
-    assert!(rt; left.put == joined(&rt, alloc, &[fault, NEW]));
-    assert_eq!(rt; left.status, 0);
+    expect_left(&rt, &left, 0, &joined(&rt, alloc, &[fault, NEW]));
+    // a moment past the year 9999
+    let late = devices(&rt, alloc, &journal, 253_402_300_800_000, &[], NOTHING);
+    let left = program(&rt, alloc, &["run"], ORDER, late, NOTHING);
+    expect_left(
+        &rt,
+        &left,
+        0,
+        b"{\"fault\":\"ClockRange\",\"ms\":253402300800000,\"ok\":false}\n",
+    );
+    // the second word can't be had, and the same draw finds the words behind it
+    let draws = joined(&rt, alloc, &[ORDER, DRAW, DRAW]);
+    let failing = Failing {
+        words: &[2],
+        ..NOTHING
+    };
+    let left = run_failing(&rt, alloc, &journal, &draws, &[5, 6, 7], failing);
+    let fault: &[u8] = b"{\"fault\":\"WordsFault\",\"ok\":false}\n";
+    let drawn: &[u8] = b"{\"ok\":true,\"serials\":[\"000006\",\"000007\"]}\n";
+    expect_left(&rt, &left, 0, &joined(&rt, alloc, &[NEW, fault, drawn]));
+}
+
+#[test]
+fn faults_of_input_and_output_end_the_run(rt: HostRuntime) {
+    let alloc = rt.alloc();
+    // the second take comes in the middle of the second line
+    let long = far_order(&rt, alloc, 4_000);
+    let lines = joined(&rt, alloc, &[ORDER, &long]);
+    let read = joined(&rt, alloc, &[NEW, b"input fault\n"]);
+    let taking = Failing {
+        takes: &[2],
+        ..NOTHING
+    };
+    expect_ended(&rt, alloc, &lines, taking, 7, &read);
+    let putting = Failing {
+        puts: &[1],
+        ..NOTHING
+    };
+    expect_ended(&rt, alloc, &lines, putting, 8, b"");
+    let putting_later = Failing {
+        puts: &[2],
+        ..NOTHING
+    };
+    expect_ended(&rt, alloc, &lines, putting_later, 8, NEW);
+    // the fault's line can't be put either
+    let both = Failing {
+        takes: &[1],
+        puts: &[1],
+        ..NOTHING
+    };
+    expect_ended(&rt, alloc, &lines, both, 7, b"");
+}
+
+/// The run ends so where these calls fail. What was answered, or was to be, is told by the next run.
+fn expect_ended(
+    rt: &impl Abort,
+    alloc: Global,
+    lines: &[u8],
+    failing: Failing,
+    status: u8,
+    put: &[u8],
+) {
+    let left = run_failing(rt, alloc, &made(rt, alloc), lines, &[], failing);
+    expect_left(rt, &left, status, put);
+    let again = run(rt, alloc, &left.disk, ORDER, &[]);
+    expect_left(rt, &again, 0, NEW);
+}
+
+#[test]
+fn faults_of_an_init_end_it(rt: HostRuntime) {
+    let alloc = rt.alloc();
+    let rows: [(&[u64], &[u64], &[u64], u8, &[u8]); 3] = [
+        (&[1], &[], &[], 7, b"input fault\n"),
+        // the journal is made, and `ready` isn't put
+        (&[], &[1], &[], 8, b""),
+        (&[], &[], &[1], 9, b"disk fault\n"),
+    ];
+    for (takes, puts, disk, status, put) in rows {
+        let failing = Failing {
+            takes,
+            puts,
+            disk,
+            ..NOTHING
+        };
+        let left = init(&rt, alloc, E1, b"", failing);
+        expect_left(&rt, &left, status, put);
+        assert!(rt; left.disk.is_empty() == (status != 8));
+    }
 }
 
 #[test]
 fn journals_that_are_bad_or_none_are_told(rt: HostRuntime) {
     let alloc = rt.alloc();
-    let none = run(&rt, alloc, b"", ORDER, &[]);
-    assert_eq!(rt; none.put.as_slice(), b"no journal\n".as_slice());
-    assert_eq!(rt; none.status, 5);
-    let made = init(&rt, alloc, E1, b"");
+    expect_left(&rt, &run(&rt, alloc, b"", ORDER, &[]), 5, b"no journal\n");
     // without its last byte the gate at 103 is missing
-    let mut short = list(&rt, alloc, &made.disk);
+    let mut short = made(&rt, alloc);
     short.truncate(103);
     let cut = run(&rt, alloc, &short, ORDER, &[]);
-    assert_eq!(rt; cut.put.as_slice(), b"journal bad at 103\n".as_slice());
-    assert_eq!(rt; cut.status, 6);
+    expect_left(&rt, &cut, 6, b"journal bad at 103\n");
     assert!(rt; cut.disk == short);
 }
 
 #[test]
 fn site_files_that_are_no_site_are_told(rt: HostRuntime) {
     let alloc = rt.alloc();
-    let empty = init(&rt, alloc, b"", b"");
-    assert_eq!(rt; empty.put.as_slice(), b"site unreadable: 2\n".as_slice());
-    assert_eq!(rt; empty.status, 3);
+    let empty = init(&rt, alloc, b"", b"", NOTHING);
+    expect_left(&rt, &empty, 3, b"site unreadable: 2\n");
     assert!(rt; empty.disk.is_empty());
     let mut long = list(&rt, alloc, E1);
     long.resize(1_048_577, b'\n').expect(&rt, "memory");
-    let long = init(&rt, alloc, &long, b"");
-    assert_eq!(rt; long.put.as_slice(), b"site unreadable: 1\n".as_slice());
+    let long = init(&rt, alloc, &long, b"", NOTHING);
+    expect_left(&rt, &long, 3, b"site unreadable: 1\n");
 }
 
 #[test]
-fn words_are_exactly_those_of_a_command(rt: HostRuntime) {
+fn other_words_are_refused(rt: HostRuntime) {
     let alloc = rt.alloc();
     for words in [
-        &["init"] as &[&str],
+        &["stop"] as &[&str],
         &["run", "x"],
+        &["init"],
         &["init", "-x"],
         &["init", ""],
         &["RUN"],
+        // commands that the program doesn't have yet
+        &["report", "B6"],
+        &["sim", "7", "1"],
         &[],
     ] {
-        let args = args_of(&rt, alloc, words);
-        assert!(rt; read_command(&args).is_none());
-        assert!(rt; site_path(&args).is_none());
+        let devices = devices(&rt, alloc, b"", MOMENT, &[], NOTHING);
+        let left = program(&rt, alloc, words, ORDER, devices, NOTHING);
+        expect_left(&rt, &left, 2, b"bad words\n");
+        assert!(rt; matches!(site_path(alloc, &args_of(&rt, alloc, words)), Ok(None)));
     }
     let args = args_of(&rt, alloc, &["init", "e1.toml"]);
-    assert!(rt; read_command(&args) == Some(Command::Init));
-    assert!(rt; site_path(&args) == Some("e1.toml"));
-    let left = run_program(
-        &rt,
-        alloc,
-        &Asked {
-            words: &["stop"],
-            site: b"",
-            input: ORDER,
-            disk: b"",
-            draws: &[],
-            failing_disk: &[],
-            failing_clock: &[],
-        },
-    );
-    assert_eq!(rt; left.put.as_slice(), b"bad words\n".as_slice());
-    assert_eq!(rt; left.status, 2);
+    assert!(rt; matches!(site_path(alloc, &args), Ok(Some("e1.toml"))));
 }

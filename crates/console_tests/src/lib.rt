@@ -3,3 +3,5 @@
 
 #[cfg(test)]
 mod console_tests;
+#[cfg(test)]
+mod small_pieces;

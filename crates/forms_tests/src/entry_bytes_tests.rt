@@ -1,10 +1,8 @@
 //! Bytes written out by hand, both ways, and the place of each fault.
-use crate::example::{gtin, site, sscc, text};
-use deed_words::{Codes, Deed, Entry, Epcs, Level, OrderRow, Rows, Setup, StationId};
+use crate::example::{site, text};
+use deed_words::{Deed, Entry, Setup, StationId};
 use entry_bytes::{EntryFault, print_entries, print_entry, print_setup, read_entries, read_setup};
-use epc_urn::Epc;
-use gs1_element::Code;
-use gs1_keys::{Alphabet, SerialForm, Serials};
+use gs1_keys::{Alphabet, SerialForm, Serials, Text20};
 use std::alloc::Global;
 use std::process::Abort;
 
@@ -25,8 +23,8 @@ const OLD_TWO: &[u8] =
 /// A start by the operator `ann`.
 const NAMED: &[u8] = b"\x81\0\0\0\0\0\0\0\0\x03\0\0\0\x01\x9b\x76\xda\xa8\0\x03ann\x03\x02B6\0\0";
 
-/// The fields in front of the tag of an entry with number 1, in a group of one.
-const HEAD: &[u8] = b"\x81\0\0\0\0\0\0\0\0\x01\0\0\0\x01\x9b\x76\xda\xa8\0\0";
+/// The fields in front of the operator of an entry with number 1, in a group of one.
+pub(crate) const HEAD: &[u8] = b"\x81\0\0\0\0\0\0\0\0\x01\0\0\0\x01\x9b\x76\xda\xa8\0";
 
 /// An example site, in version 2 and in version 1.
 const SITE: &[u8] =
@@ -35,20 +33,8 @@ const SITE: &[u8] =
 const OLD_SITE: &[u8] =
     b"0614141000012\x070614141\x01\0\0\0\0\0\0\0\x01+00:00\0\x0200614141123452\x07\x0a80614141123458\x07\x06\x04\x02P1\x01\x02L1\x02\x02L2\x02\x02Q1\x03";
 
-fn order(rt: &impl Abort) -> OrderRow {
-    OrderRow {
-        batch: text(rt, b"B6"),
-        gtin: gtin(rt),
-        lot: text(rt, b"LOT6"),
-        expiry: *b"271231",
-        quantity: 2,
-        case_size: 2,
-        pallet_size: 0,
-    }
-}
-
 /// Prints a proper entry, and compares the bytes.
-fn expect_printed(rt: &impl Abort, alloc: Global, entry: &Entry, bytes: &[u8]) {
+pub(crate) fn expect_printed(rt: &impl Abort, alloc: Global, entry: &Entry, bytes: &[u8]) {
     assert!(rt; entry.is_proper());
     if !entry.is_proper() {
         return;
@@ -58,7 +44,7 @@ fn expect_printed(rt: &impl Abort, alloc: Global, entry: &Entry, bytes: &[u8]) {
 }
 
 /// Reads a group and prints what was read, in version 2.
-fn expect_again(rt: &impl Abort, alloc: Global, bytes: &[u8], again: &[u8]) {
+pub(crate) fn expect_again(rt: &impl Abort, alloc: Global, bytes: &[u8], again: &[u8]) {
     let entries = read_entries(alloc, bytes).expect(rt, "a group");
     let mut out = Vec::new(alloc);
     print_entries(alloc, entries.as_slice(), &mut out).expect(rt, "memory is ample");
@@ -85,20 +71,26 @@ fn changed(rt: &impl Abort, alloc: Global, bytes: &[u8], at: usize, byte: u8) ->
 }
 
 /// The two parts in one.
-fn joined(rt: &impl Abort, alloc: Global, front: &[u8], back: &[u8]) -> Vec<u8> {
+pub(crate) fn joined(rt: &impl Abort, alloc: Global, front: &[u8], back: &[u8]) -> Vec<u8> {
     let mut all = Vec::new(alloc);
     all.extend_from_slice(front).expect(rt, "memory is ample");
     all.extend_from_slice(back).expect(rt, "memory is ample");
     all
 }
 
-fn entry(rt: &impl Abort, alloc: Global, number: u64, deed: Deed) -> Entry {
+/// An entry of the first station, with nothing drawn.
+pub(crate) fn entry_with(
+    alloc: Global,
+    number: u64,
+    operator: Option<Text20>,
+    deed: Deed,
+) -> Entry {
     Entry {
         station: StationId(0),
         number,
         worker: 0,
         stamp: 1_767_225_600_000,
-        operator: None,
+        operator,
         deed,
         drawn: Serials::new(alloc),
     }
@@ -106,7 +98,7 @@ fn entry(rt: &impl Abort, alloc: Global, number: u64, deed: Deed) -> Entry {
 
 /// A draw with these serials.
 fn draw(rt: &impl Abort, alloc: Global, count: u32, serials: &[&[u8]]) -> Entry {
-    let mut entry = entry(rt, alloc, 2, Deed::Draw(text(rt, b"B6"), count));
+    let mut entry = entry_with(alloc, 2, None, Deed::Draw(text(rt, b"B6"), count));
     let mut drawn = Serials::new(alloc);
     for serial in serials {
         let serial = text(rt, serial);
@@ -139,156 +131,11 @@ fn two_entries_stand_in_a_group(rt: HostRuntime) {
 #[test]
 fn an_operator_is_written_and_read(rt: HostRuntime) {
     let alloc = rt.alloc();
-    let mut named = entry(&rt, alloc, 3, Deed::Start(text(&rt, b"B6")));
-    named.operator = Some(text(&rt, b"ann"));
+    let operator = Some(text(&rt, b"ann"));
+    let named = entry_with(alloc, 3, operator, Deed::Start(text(&rt, b"B6")));
     assert_eq!(rt; NAMED.len(), 29);
     expect_printed(&rt, alloc, &named, &NAMED[1..]);
     expect_again(&rt, alloc, NAMED, NAMED);
-}
-
-/// Prints a deed's entry and reads it again: its tag and its fields are these.
-fn expect_deed(rt: &impl Abort, alloc: Global, deed: Deed, fields: &[u8]) {
-    let front = joined(rt, alloc, HEAD, fields);
-    let group = joined(rt, alloc, front.as_slice(), b"\0\0");
-    let one = entry(rt, alloc, 1, deed);
-    expect_printed(rt, alloc, &one, group.get(1..).unwrap_or(&[]));
-    expect_again(rt, alloc, group.as_slice(), group.as_slice());
-}
-
-fn one_row(rt: &impl Abort, alloc: Global, row: OrderRow) -> Rows {
-    let mut rows = Rows::new(alloc);
-    rows.push(row).expect(rt, "memory is ample");
-    rows
-}
-
-#[test]
-fn orders_of_deeds(rt: HostRuntime) {
-    let alloc = rt.alloc();
-    let rows = one_row(&rt, alloc, order(&rt));
-    let first = b"\x01\x02B680614141123458\x04LOT6271231\0\0\0\x02\0\x02\0\0";
-    expect_deed(&rt, alloc, Deed::Order(order(&rt)), first);
-    let second = b"\x02\0\x01\x02B680614141123458\x04LOT6271231\0\0\0\x02\0\x02\0\0";
-    expect_deed(&rt, alloc, Deed::Orders(rows), second);
-}
-
-#[test]
-fn numbers_of_deeds(rt: HostRuntime) {
-    let alloc = rt.alloc();
-    let batch = text(&rt, b"B6");
-    expect_deed(&rt, alloc, Deed::Start(batch), b"\x03\x02B6");
-    expect_deed(&rt, alloc, Deed::Draw(batch, 2), b"\x04\x02B6\0\0\0\x02");
-    expect_deed(
-        &rt,
-        alloc,
-        Deed::Lend(batch, 258),
-        b"\x05\x02B6\0\0\x01\x02",
-    );
-    let declared = b"\x15\x02B6\0\0\0\x01\0\0\0\x02\0\0\0\x03";
-    expect_deed(&rt, alloc, Deed::Declare(batch, 1, 2, 3), declared);
-    expect_deed(&rt, alloc, Deed::Close(batch), b"\x16\x02B6");
-    expect_deed(&rt, alloc, Deed::Amend(batch, 3), b"\x17\x02B6\0\0\0\x03");
-}
-
-fn one_serial(rt: &impl Abort, alloc: Global) -> Serials {
-    let mut serials = Serials::new(alloc);
-    serials.push(text(rt, b"7")).expect(rt, "memory is ample");
-    serials
-}
-
-fn one_name(rt: &impl Abort, alloc: Global, name: Epc) -> Epcs {
-    let mut names = Epcs::new(alloc);
-    names.push(name).expect(rt, "memory is ample");
-    names
-}
-
-fn item(rt: &impl Abort) -> Epc {
-    Epc::Item(gtin(rt), text(rt, b"7"))
-}
-
-fn one_code(rt: &impl Abort, alloc: Global) -> Codes {
-    let code = Code {
-        gtin: gtin(rt),
-        serial: text(rt, b"000005"),
-        lot: text(rt, b"LOT6"),
-        expiry: *b"271200",
-    };
-    let mut codes = Codes::new(alloc);
-    codes.push(code).expect(rt, "memory is ample");
-    codes
-}
-
-#[test]
-fn serials_of_deeds(rt: HostRuntime) {
-    let alloc = rt.alloc();
-    let batch = text(&rt, b"B6");
-    let commission = Deed::Commission(batch, one_code(&rt, alloc));
-    let printed = b"\x06\x02B6\0\x0180614141123458\x06000005\x04LOT6271200";
-    expect_deed(&rt, alloc, commission, printed);
-    let spoil = Deed::Spoil(batch, one_serial(&rt, alloc));
-    expect_deed(&rt, alloc, spoil, b"\x07\x02B6\0\x01\x017");
-    let giveback = Deed::Giveback(batch, one_serial(&rt, alloc));
-    expect_deed(&rt, alloc, giveback, b"\x08\x02B6\0\x01\x017");
-}
-
-#[test]
-fn names_of_deeds(rt: HostRuntime) {
-    let alloc = rt.alloc();
-    let batch = text(&rt, b"B6");
-    let sample = Deed::Sample(batch, one_name(&rt, alloc, item(&rt)));
-    expect_deed(
-        &rt,
-        alloc,
-        sample,
-        b"\x09\x02B6\0\x01\x0180614141123458\x017",
-    );
-    let reject = Deed::Reject(batch, one_name(&rt, alloc, Epc::Unit(sscc(&rt))));
-    expect_deed(
-        &rt,
-        alloc,
-        reject,
-        b"\x0a\x02B6\0\x01\x02106141410000000019",
-    );
-    let pack = Deed::Pack(sscc(&rt), one_name(&rt, alloc, item(&rt)));
-    let filled = b"\x0f106141410000000019\0\x01\x0180614141123458\x017";
-    expect_deed(&rt, alloc, pack, filled);
-    let unpack = Deed::Unpack(sscc(&rt), one_name(&rt, alloc, Epc::Unit(sscc(&rt))));
-    let emptied = b"\x10106141410000000019\0\x01\x02106141410000000019";
-    expect_deed(&rt, alloc, unpack, emptied);
-}
-
-#[test]
-fn empty_lists_of_deeds(rt: HostRuntime) {
-    let alloc = rt.alloc();
-    let batch = text(&rt, b"B6");
-    let reinstate = Deed::Reinstate(batch, Epcs::new(alloc));
-    expect_deed(&rt, alloc, reinstate, b"\x0b\x02B6\0\0");
-    let destroy = Deed::Destroy(batch, Epcs::new(alloc));
-    expect_deed(&rt, alloc, destroy, b"\x0c\x02B6\0\0");
-    let decommission = Deed::Decommission(batch, Epcs::new(alloc));
-    expect_deed(&rt, alloc, decommission, b"\x0d\x02B6\0\0");
-}
-
-#[test]
-fn containers_of_deeds(rt: HostRuntime) {
-    let alloc = rt.alloc();
-    let batch = text(&rt, b"B6");
-    let unit = sscc(&rt);
-    expect_deed(
-        &rt,
-        alloc,
-        Deed::Container(batch, Level::Case),
-        b"\x0e\x02B6\x01",
-    );
-    expect_deed(
-        &rt,
-        alloc,
-        Deed::Container(batch, Level::Pallet),
-        b"\x0e\x02B6\x02",
-    );
-    expect_deed(&rt, alloc, Deed::UnpackAll(unit), b"\x11106141410000000019");
-    expect_deed(&rt, alloc, Deed::Seal(unit), b"\x12106141410000000019");
-    expect_deed(&rt, alloc, Deed::Unseal(unit), b"\x13106141410000000019");
-    expect_deed(&rt, alloc, Deed::Void(unit), b"\x14106141410000000019");
 }
 
 #[test]
@@ -327,7 +174,8 @@ fn faults_of_entries_have_their_places(rt: HostRuntime) {
 const FIELDS: u64 = 21;
 
 fn expect_deed_fault(rt: &impl Abort, alloc: Global, fields: &[u8], fault: EntryFault) {
-    let bytes = joined(rt, alloc, HEAD, fields);
+    let front = joined(rt, alloc, HEAD, b"\0");
+    let bytes = joined(rt, alloc, front.as_slice(), fields);
     expect_fault(rt, alloc, bytes.as_slice(), fault);
 }
 

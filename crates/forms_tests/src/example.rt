@@ -8,10 +8,6 @@ pub(crate) fn text(rt: &impl Abort, characters: &[u8]) -> Text20 {
     Text20::read(characters).expect(rt, "a text")
 }
 
-pub(crate) fn gtin(rt: &impl Abort) -> Gtin {
-    Gtin::read(b"80614141123458").expect(rt, "a GTIN")
-}
-
 pub(crate) fn sscc(rt: &impl Abort) -> Sscc {
     Sscc::read(b"106141410000000019").expect(rt, "an SSCC")
 }

@@ -1,4 +1,4 @@
-//! Tests of what is written and read, through the public calls: bytes of entries, files, JSON and events.
+//! Tests of what is written and read, through the public calls: bytes of entries, files and JSON.
 #![tactic(auto)]
 
 #[cfg(test)]
@@ -8,11 +8,7 @@ mod deed_tests;
 #[cfg(test)]
 mod entry_bytes_tests;
 #[cfg(test)]
-mod epcis_events_tests;
-#[cfg(test)]
 mod example;
-#[cfg(test)]
-mod name_marks_tests;
 #[cfg(test)]
 mod order_file_tests;
 #[cfg(test)]

@@ -33,80 +33,70 @@ fn example_site(rt: HostRuntime) {
     assert_eq!(rt; form.length, 6);
 }
 
-#[test]
-fn site_faults(rt: HostRuntime) {
-    let alloc = rt.alloc();
-    let no = FileFault::NoField;
-    let bad = FileFault::BadField;
-    expect_fault(&rt, alloc, "[site]", "[site", FileFault::Unreadable);
-    expect_fault(&rt, alloc, "[site]", "[other]", no(Word::Site));
-    expect_fault(&rt, alloc, "gln = \"0614141000012\"", "", no(Word::Gln));
-    expect_fault(&rt, alloc, "0614141000012", "0614141000013", bad(Word::Gln));
-    expect_fault(&rt, alloc, "prefix = \"0614141\"", "", no(Word::Prefix));
-    expect_fault(
-        &rt,
-        alloc,
+/// Texts of the example site, what stands in their place, and the fault.
+const FAULTS: [(&str, &str, FileFault); 17] = [
+    ("[site]", "[site", FileFault::Unreadable),
+    ("[site]", "[other]", FileFault::NoField(Word::Site)),
+    ("gln = \"0614141000012\"", "", FileFault::NoField(Word::Gln)),
+    (
+        "0614141000012",
+        "0614141000013",
+        FileFault::BadField(Word::Gln),
+    ),
+    ("prefix = \"0614141\"", "", FileFault::NoField(Word::Prefix)),
+    (
         "prefix = \"0614141\"",
         "prefix = 614141",
-        bad(Word::Prefix),
-    );
-    expect_fault(
-        &rt,
-        alloc,
+        FileFault::BadField(Word::Prefix),
+    ),
+    (
         "prefix = \"0614141\"",
         "prefix = \"0614142\"",
-        bad(Word::Gln),
-    );
-    expect_fault(
-        &rt,
-        alloc,
+        FileFault::BadField(Word::Gln),
+    ),
+    (
         "extension = 1",
         "extension = 10",
-        bad(Word::Extension),
-    );
-    expect_fault(
-        &rt,
-        alloc,
+        FileFault::BadField(Word::Extension),
+    ),
+    (
         "reference = 1",
         "reference = 1000000000",
-        bad(Word::Reference),
-    );
-    expect_fault(&rt, alloc, "+00:00", "+14:01", bad(Word::Offset));
-    expect_fault(
-        &rt,
-        alloc,
+        FileFault::BadField(Word::Reference),
+    ),
+    ("+00:00", "+14:01", FileFault::BadField(Word::Offset)),
+    (
         "00614141123452",
         "00614141123453",
-        bad(Word::Gtin),
-    );
-    expect_fault(
-        &rt,
-        alloc,
+        FileFault::BadField(Word::Gtin),
+    ),
+    (
         "prefix_length = 7",
         "prefix_length = 13",
-        bad(Word::PrefixLength),
-    );
-    expect_fault(
-        &rt,
-        alloc,
+        FileFault::BadField(Word::PrefixLength),
+    ),
+    (
         "serial_length = 10",
         "serial_length = 5",
-        bad(Word::SerialLength),
-    );
-    expect_fault(
-        &rt,
-        alloc,
+        FileFault::BadField(Word::SerialLength),
+    ),
+    (
         "serial_length = 10",
         "serial_length = 13\nserial_alphabet = \"base32\"",
-        bad(Word::SerialAlphabet),
-    );
-    expect_fault(
-        &rt,
-        alloc,
+        FileFault::BadField(Word::SerialAlphabet),
+    ),
+    (
         "80614141123458",
         "614141123452",
         FileFault::Twice(Word::Gtin),
-    );
-    expect_fault(&rt, alloc, "\"L1\"", "\"P1\"", FileFault::Twice(Word::Name));
-    expect_fault(&rt, alloc, "\"quality\"", "\"cook\"", bad(Word::Role));
+    ),
+    ("\"L1\"", "\"P1\"", FileFault::Twice(Word::Name)),
+    ("\"quality\"", "\"cook\"", FileFault::BadField(Word::Role)),
+];
+
+#[test]
+fn faults(rt: HostRuntime) {
+    for (old, new, fault) in FAULTS {
+        expect_fault(&rt, rt.alloc(), old, new, fault);
+    }
 }

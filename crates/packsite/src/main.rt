@@ -3,8 +3,10 @@
 //! The journal is `packsite.journal` in the working folder.
 #![tactic(auto)]
 
+mod telling;
+
 use outside::{
-    FileDisk, FileSource, RandomWords, Reading, SystemClock, Writing, take_standard_streams,
+    FileDisk, FileSource, RandomWords, Reading, Sink, SystemClock, Writing, take_standard_streams,
 };
 use site_console::{Ending, end_with, site_path, site_top};
 use site_store::Devices;
@@ -13,6 +15,7 @@ use std::process::ExitCode;
 use std::rt::{Env, Files};
 use std::time::Clock;
 use std::{env, fs, io};
+use telling::{tell, tell_unread_word};
 
 /// The journal, in the working folder.
 const JOURNAL: &str = "packsite.journal";
@@ -25,23 +28,48 @@ fn main(rt: HostRuntime) -> ExitCode {
 }
 
 /// Runs the program over the real devices.
-fn run_program<R: Env + Input + Print + Files<File = File> + Clock + AllocGlobal>(rt: &R) -> u8 {
+fn run_program<R: Env + Input + Print + Eprint + Files<File = File> + Clock + AllocGlobal>(
+    rt: &R,
+) -> u8 {
     if take_standard_streams(rt).is_err() {
         return INPUT_FAULT;
     }
     let mut out = Writing::new(io::writer(rt));
-    let args = match read_words(rt) {
-        Ok(args) => args,
-        Err(ending) => return end_with(&mut out, ending),
+    match read_words(rt) {
+        Ok(args) => {
+            let status = run_command(rt, &args, &mut out);
+            tell(rt, status, &args);
+            status
+        }
+        Err(Ending::BadWords) => {
+            tell_unread_word(rt);
+            end_with(&mut out, Ending::BadWords)
+        }
+        Err(ending) => {
+            let status = end_with(&mut out, ending);
+            tell(rt, status, &[]);
+            status
+        }
+    }
+}
+
+/// Does what the words say, over the real devices, which it lets go.
+fn run_command<R: Env + Input + Files<File = File> + Clock + AllocGlobal, O: Sink>(
+    rt: &R,
+    args: &[String],
+    out: &mut O,
+) -> u8 {
+    let mut site = match site_path(rt.alloc(), args) {
+        Ok(path) => FileSource::new(path.and_then(|path| fs::open(rt, path).ok())),
+        Err(_) => return end_with(out, Ending::NoMemory),
     };
-    let mut site = FileSource::new(site_file(rt, &args));
     let mut input = Reading::new(rt.reader());
     let devices = Devices {
         disk: FileDisk::open(rt, ".", JOURNAL),
         clock: SystemClock::new(rt),
         words: RandomWords::new(fs::open(rt, "/dev/urandom").ok()),
     };
-    let (status, _devices) = site_top(rt.alloc(), &args, &mut site, &mut input, &mut out, devices);
+    let (status, _devices) = site_top(rt.alloc(), args, &mut site, &mut input, out, devices);
     status
 }
 
@@ -59,9 +87,4 @@ fn read_words<R: Env + AllocGlobal>(rt: &R) -> Result<Vec<String>, Ending> {
         }
     }
     Ok(args)
-}
-
-/// The site file of `init SITE`, if it can be opened.
-fn site_file<R: Files<File = File>>(rt: &R, args: &[String]) -> Option<File> {
-    fs::open(rt, site_path(args)?).ok()
 }

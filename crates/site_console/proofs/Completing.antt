@@ -15,6 +15,7 @@ use Rattle.deed_words.specs.declared.entry.Entry.{Entry}
 use Rattle.site_files.specs.declared.fault.FileFault.{FileFault}
 use Rattle.site_files.specs.declared.fault.FileFault.TheVariants as file
 use Rattle.site_files.specs.Sites.{setup_of}
+use Rattle.command_words.specs.declared.command.Command.TheVariants.{Init, Run}
 use Rattle.site_store.specs.declared.store.Devices.{Devices}
 use Rattle.site_store.specs.Readings.{Reading, ReadsAs, Nothing, Bad, Kept}
 use Rattle.site_store.specs.States.{settled}
@@ -30,7 +31,7 @@ use Rattle.site_console.specs.Open.{counts_of}
 use Rattle.site_console.specs.Script.{Ended}
 use Rattle.site_console.specs.Sessions.{RunSession, NotLoaded, RanFrom}
 use Rattle.site_console.specs.Told.{Stream}
-use Rattle.site_console.specs.Top.{CanInit, CanRun, IsDone, IsLoadable, NoneFailed}
+use Rattle.site_console.specs.Top.{CanInit, CanRun, IsDone, IsLoadable, NoneFailed, Obeys}
 
 -- bytes are read in one way
 abbrev pub OneReading : Type 0
@@ -112,11 +113,16 @@ module _ {D C W : Type 0} (g : disk.Ghosts D) (k : clock.Ghosts C) (w : words.Gh
       subst (λ (e : Ending). IsDone (status_of e)) (sym is)
       (ran_result old new a b c d ending s s.result refl sound.source sound.sink can.short (subst (λ (e : Ending). HasCauseIf (is_read_ending e) a.faults b.faults) is read) (subst (λ (e : Ending). HasCauseIf (is_write_ending e) c.faults d.faults) is write))
 
-  pub run_done : (old new : Devices D C W) (a b c mid d : Stream) (ending : Ending) (n : ℕ) → n ≡ status_of ending → RunSession g k w old new a b c mid ending → mid.faults ≤ d.faults
+  run_done : (old new : Devices D C W) (a b c mid d : Stream) (ending : Ending) (n : ℕ) → n ≡ status_of ending → RunSession g k w old new a b c mid ending → mid.faults ≤ d.faults
       → NoneFailed (g.disk_faults old.disk) (g.disk_faults new.disk) a.faults b.faults c.faults d.faults → CanRun (g.content old.disk) a.bytes → IsDone n
   run_done old new a b c mid d ending n is s later sound can =
       subst IsDone (sym is)
       (run_comes old new a b c mid ending s.comes s.read s.write (record { disk = sound.disk; source = sound.source; sink = λ rose. sound.sink (later_rose c.faults mid.faults d.faults rose later) }) can)
+
+  pub obeyed_run : (old new : Devices D C W) (s s' a b c mid d : Stream) (ending : Ending) (n : ℕ) → n ≡ status_of ending → Obeys g k w (Some Run) old new s s' a b c mid ending → mid.faults ≤ d.faults
+      → NoneFailed (g.disk_faults old.disk) (g.disk_faults new.disk) a.faults b.faults c.faults d.faults → CanRun (g.content old.disk) a.bytes → IsDone n
+  obeyed_run old new s s' a b c mid d ending n is (inl wants) later sound can = inr (is ∙ ap status_of wants.0)
+  obeyed_run old new s s' a b c mid d ending n is (inr session) later sound can = run_done old new a b c mid d ending n is session.1 later sound can
 
   made : (site : Setup) (old new : Devices D C W) (c d : Stream) (ending : Ending) (put : List ℕ) → MakeEnds g site old.disk new.disk ending put → HasCauseIf (is_disk_ending ending) (g.disk_faults old.disk) (g.disk_faults new.disk) → HasCauseIf (is_write_ending ending) c.faults d.faults
       → ¬ (Rose (g.disk_faults old.disk) (g.disk_faults new.disk)) → ¬ (Rose c.faults d.faults) → IsSomeAnd (g.content old.disk) IsNone → IsDone (status_of ending)
@@ -143,8 +149,13 @@ module _ {D C W : Type 0} (g : disk.Ghosts D) (k : clock.Ghosts C) (w : words.Gh
   init_comes old new a b c d bytes ending from (inr (whole, inl s)) read write sound can = absurd (says_setup a.bytes b.bytes bytes s.fault from whole s.says can.says)
   init_comes old new a b c d bytes ending from (inr (whole, inr s)) read write sound can = made s.site old new c d ending s.makes.put s.makes.ends s.makes.cause write sound.disk sound.sink can.none
 
-  pub init_done : (old new : Devices D C W) (a b c mid d : Stream) (ending : Ending) (n : ℕ) → n ≡ status_of ending → InitSession g old new a b c mid ending → mid.faults ≤ d.faults
+  init_done : (old new : Devices D C W) (a b c mid d : Stream) (ending : Ending) (n : ℕ) → n ≡ status_of ending → InitSession g old new a b c mid ending → mid.faults ≤ d.faults
       → NoneFailed (g.disk_faults old.disk) (g.disk_faults new.disk) a.faults b.faults c.faults d.faults → CanInit (g.content old.disk) a.bytes → IsDone n
   init_done old new a b c mid d ending n is s later sound can =
       subst IsDone (sym is)
       (init_comes old new a b c mid s.bytes ending s.taken s.comes s.read s.write (record { disk = sound.disk; source = sound.source; sink = λ rose. sound.sink (later_rose c.faults mid.faults d.faults rose later) }) can)
+
+  pub obeyed_init : (old new : Devices D C W) (a b i i' c mid d : Stream) (ending : Ending) (n : ℕ) → n ≡ status_of ending → Obeys g k w (Some Init) old new a b i i' c mid ending → mid.faults ≤ d.faults
+      → NoneFailed (g.disk_faults old.disk) (g.disk_faults new.disk) a.faults b.faults c.faults d.faults → CanInit (g.content old.disk) a.bytes → IsDone n
+  obeyed_init old new a b i i' c mid d ending n is (inl wants) later sound can = inr (is ∙ ap status_of wants.0)
+  obeyed_init old new a b i i' c mid d ending n is (inr session) later sound can = init_done old new a b c mid d ending n is session.1 later sound can

@@ -1,22 +1,22 @@
 -- The statuses of the program.
-use Rattle.std.proofs.Common.{◌≡◌, ◌⊎◌, ℕ, List, Option, None, Some, Result, Ok, Err, inl, inr, refl, sym, subst, ◌∙◌, ap}
-use Rattle.std.specs.Prelude.{◌↔◌}
+use Rattle.std.proofs.Common.{◌≡◌, ◌⊎◌, ℕ, true, List, Option, None, Some, Result, Ok, Err, inl, inr, refl, sym, subst, ◌∙◌, ap}
 use Rattle.outside.specs.declared.disk.Disk as disk
 use Rattle.outside.specs.declared.devices.Words as words
 use Rattle.outside.specs.declared.clock.Clock as clock
 use Rattle.site_store.specs.declared.store.Devices.{Devices}
-use Rattle.site_console.specs.declared.command.Command.{Command}
-use Rattle.site_console.specs.declared.command.Command.TheVariants.{Init, Run}
+use Rattle.command_words.specs.declared.command.Command.{Command}
+use Rattle.command_words.specs.declared.command.Command.TheVariants.{Init, Run, Report, Export, Check, Log, Simulate, Serve}
 use Rattle.site_console.specs.declared.ending.Ending.{Ending}
 use Rattle.site_console.specs.declared.ending.Ending.TheVariants.{Done, BadWords, Unreadable, JournalThere, NoJournal, JournalBad, ReadFault, WriteFault, DiskFault, NoMemory, TooLong}
 use Rattle.site_console.specs.declared.fault.Fault.{Fault}
 use Rattle.site_console.specs.declared.fault.Fault.TheVariants.{Read, Write, Memory, InputTooLong}
+use Rattle.site_console.specs.Commands.{is_refused}
 use Rattle.site_console.specs.Endings.{status_of, ending_of}
 use Rattle.site_console.specs.Files.{IsWhole}
 use Rattle.site_console.specs.Inits.{InitSession, Unread, Faulty, Opens}
 use Rattle.site_console.specs.Sessions.{RunSession, NotLoaded, RanFrom}
 use Rattle.site_console.specs.Told.{Stream}
-use Rattle.site_console.specs.Top.{IsStatus, Session}
+use Rattle.site_console.specs.Top.{IsStatus, Obeys, Session}
 
 one : (ending : Ending) → IsStatus (status_of ending)
 one Done = inl refl
@@ -76,9 +76,34 @@ module _ {D C W : Type 0} (g : disk.Ghosts D) (k : clock.Ghosts C) (w : words.Gh
   init_bad old new a b c d ending e s =
       not_init old new b.bytes s.bytes c d (subst (λ (x : Ending). Unread old new c d x ⊎ (IsWhole b.bytes s.bytes × (Faulty s.bytes old new c d x ⊎ Opens g s.bytes old new c d x))) e s.comes)
 
-  pub bad_words : (command : Option Command) (old new : Devices D C W) (s s' i i' o o' : Stream) (ending : Ending) (n : ℕ) → n ≡ status_of ending → Session g k w command old new s s' i i' o o' ending → (n ≡ 2) ↔ (command ≡ None)
-  bad_words None old new s s' i i' o o' ending n is session = (λ e. refl, λ e. is ∙ ap status_of session.0)
-  bad_words (Some Init) old new s s' i i' o o' ending n is session =
-      (λ e. absurd (init_bad old new s s' o o' ending (two ending (sym is ∙ e)) session.1), λ e. absurd cc)
-  bad_words (Some Run) old new s s' i i' o o' ending n is session =
-      (λ e. absurd (run_bad old new i i' o o' ending (two ending (sym is ∙ e)) session.1), λ e. absurd cc)
+  -- the words of no other session are refused
+  session_refused : (command : Option Command) (old new : Devices D C W) (s s' i i' o o' : Stream) (ending : Ending) → Session g k w command old new s s' i i' o o' ending → ending ≡ BadWords → is_refused command ≡ true
+  session_refused None old new s s' i i' o o' ending session e = refl
+  session_refused (Some Init) old new s s' i i' o o' ending session e = absurd (init_bad old new s s' o o' ending e session.1)
+  session_refused (Some Run) old new s s' i i' o o' ending session e = absurd (run_bad old new i i' o o' ending e session.1)
+  session_refused (Some (Report batch)) old new s s' i i' o o' ending session e = refl
+  session_refused (Some (Export batch from count)) old new s s' i i' o o' ending session e = refl
+  session_refused (Some Check) old new s s' i i' o o' ending session e = refl
+  session_refused (Some (Log from count)) old new s s' i i' o o' ending session e = refl
+  session_refused (Some (Simulate seed count)) old new s s' i i' o o' ending session e = refl
+  session_refused (Some (Serve port workers connections)) old new s s' i i' o o' ending session e = refl
+
+  pub bad_words : (command : Option Command) (old new : Devices D C W) (s s' i i' o o' : Stream) (ending : Ending) (n : ℕ) → n ≡ status_of ending → Obeys g k w command old new s s' i i' o o' ending → n ≡ 2 → is_refused command ≡ true
+  bad_words command old new s s' i i' o o' ending n is (inl wants) e = absurd (let eleven = sym (ap status_of wants.0) ∙ sym is ∙ e in cc)
+  bad_words command old new s s' i i' o o' ending n is (inr session) e = session_refused command old new s s' i i' o o' ending session (two ending (sym is ∙ e))
+
+  -- where words are refused, the session is none
+  session_ends : (command : Option Command) (old new : Devices D C W) (s s' i i' o o' : Stream) (ending : Ending) → Session g k w command old new s s' i i' o o' ending → is_refused command ≡ true → ending ≡ BadWords
+  session_ends None old new s s' i i' o o' ending session e = session.0
+  session_ends (Some Init) old new s s' i i' o o' ending session e = absurd cc
+  session_ends (Some Run) old new s s' i i' o o' ending session e = absurd cc
+  session_ends (Some (Report batch)) old new s s' i i' o o' ending session e = session.0
+  session_ends (Some (Export batch from count)) old new s s' i i' o o' ending session e = session.0
+  session_ends (Some Check) old new s s' i i' o o' ending session e = session.0
+  session_ends (Some (Log from count)) old new s s' i i' o o' ending session e = session.0
+  session_ends (Some (Simulate seed count)) old new s s' i i' o o' ending session e = session.0
+  session_ends (Some (Serve port workers connections)) old new s s' i i' o o' ending session e = session.0
+
+  pub refused_ends : (command : Option Command) (old new : Devices D C W) (s s' i i' o o' : Stream) (ending : Ending) (n : ℕ) → n ≡ status_of ending → Obeys g k w command old new s s' i i' o o' ending → is_refused command ≡ true → (n ≡ 2) ⊎ (n ≡ 11)
+  refused_ends command old new s s' i i' o o' ending n is (inl wants) e = inr (is ∙ ap status_of wants.0)
+  refused_ends command old new s s' i i' o o' ending n is (inr session) e = inl (is ∙ ap status_of (session_ends command old new s s' i i' o o' ending session e))

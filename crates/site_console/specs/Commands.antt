@@ -1,23 +1,20 @@
--- The commands, and the words of a command line that say them.
-use Rattle.std.specs.Prelude.{◌&&◌, ℕ, Bool, false, not, List, [], ◌∷◌, Option, Some, None, codes, nat_eq, if◌then◌else◌}
-use Rattle.std.specs.Str.{bytes_eq}
-use Rattle.site_console.specs.declared.command.Command.{Command}
-use Rattle.site_console.specs.declared.command.Command.TheVariants.{Init, Run}
+-- The commands that the program has.
+use Rattle.std.specs.Prelude.{Bool, true, false, not, Option, Some, None}
+use Rattle.command_words.specs.declared.command.Command.{Command}
+use Rattle.command_words.specs.declared.command.Command.TheVariants.{Init, Run, Report, Export, Check, Log, Simulate, Serve}
 
--- a word that isn't empty and doesn't begin with `-`
-abbrev pub is_plain : List ℕ → Bool
-is_plain [] = false
-is_plain (b ∷ bs) = not (nat_eq b 45)
+-- `init` and `run`, and not yet `report`, `export`, `check`, `log`, `sim` and `serve`
+abbrev pub is_built : Command → Bool
+is_built Init = true
+is_built Run = true
+is_built (Report batch) = false
+is_built (Export batch from count) = false
+is_built Check = false
+is_built (Log from count) = false
+is_built (Simulate seed count) = false
+is_built (Serve port workers connections) = false
 
-abbrev pub alone : List ℕ → Option Command
-alone word = if bytes_eq word (codes "run") then Some Run else None
-
-abbrev pub with_file : List ℕ → List ℕ → Option Command
-with_file word file = if bytes_eq word (codes "init") && is_plain file then Some Init else None
-
--- the command that the words say, if any: `init SITE` or `run`
-abbrev pub command_of : List (List ℕ) → Option Command
-command_of [] = None
-command_of (word ∷ []) = alone word
-command_of (word ∷ file ∷ []) = with_file word file
-command_of (word ∷ file ∷ more ∷ words) = None
+-- there is no command, or one that the program doesn't have
+abbrev pub is_refused : Option Command → Bool
+is_refused None = true
+is_refused (Some command) = not (is_built command)

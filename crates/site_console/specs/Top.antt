@@ -10,10 +10,10 @@ use Rattle.deed_words.specs.declared.entry.Entry.{Entry}
 use Rattle.gate_journal.specs.Grammar.{IsNone}
 use Rattle.site_store.specs.declared.store.Devices.{Devices}
 use Rattle.site_store.specs.Held.{Held}
-use Rattle.site_console.specs.declared.command.Command.{Command}
-use Rattle.site_console.specs.declared.command.Command.TheVariants.{Init, Run}
+use Rattle.command_words.specs.declared.command.Command.{Command}
+use Rattle.command_words.specs.declared.command.Command.TheVariants.{Init, Run, Report, Export, Check, Log, Simulate, Serve}
 use Rattle.site_console.specs.declared.ending.Ending.{Ending}
-use Rattle.site_console.specs.declared.ending.Ending.TheVariants.{BadWords}
+use Rattle.site_console.specs.declared.ending.Ending.TheVariants.{BadWords, NoMemory}
 use Rattle.site_console.specs.Endings.{status_of, fault_line, Tells}
 use Rattle.site_console.specs.Files.{site_of}
 use Rattle.site_console.specs.Inits.{IsIdle, InitSession}
@@ -32,20 +32,43 @@ pub record Spares {D C W : Type 0} (old new : Devices D C W) (site_old site_new 
   pub site : site_new ≡ site_old
   pub input : input_new ≡ input_old
 
--- the session of the command that the words say; where they say none, nothing is done
+-- nothing was done, and the program ends so
+abbrev pub Idles : {D C W : Type 0} → Devices D C W → Devices D C W → Stream → Stream → Stream → Stream → Stream → Stream → Ending → Ending → Type 0
+Idles old new site_old site_new input_old input_new out_old out_new ending so =
+    (ending ≡ so) × Spares old new site_old site_new input_old input_new out_old out_new
+
+-- The session of the command that the words say. Nothing is done where they say none, or one that the program doesn't have.
 abbrev pub Session : {D C W : Type 0} (g : disk.Ghosts D) (k : clock.Ghosts C) (w : words.Ghosts W) → Option Command → Devices D C W → Devices D C W → Stream → Stream → Stream → Stream → Stream → Stream → Ending → Type 0
 Session g k w None old new site_old site_new input_old input_new out_old out_new ending =
-    (ending ≡ BadWords) × Spares old new site_old site_new input_old input_new out_old out_new
+    Idles old new site_old site_new input_old input_new out_old out_new ending BadWords
 Session g k w (Some Init) old new site_old site_new input_old input_new out_old out_new ending =
     (input_new ≡ input_old) × InitSession g old new site_old site_new out_old out_new ending
 Session g k w (Some Run) old new site_old site_new input_old input_new out_old out_new ending =
     (site_new ≡ site_old) × RunSession g k w old new input_old input_new out_old out_new ending
+Session g k w (Some (Report batch)) old new site_old site_new input_old input_new out_old out_new ending =
+    Idles old new site_old site_new input_old input_new out_old out_new ending BadWords
+Session g k w (Some (Export batch from count)) old new site_old site_new input_old input_new out_old out_new ending =
+    Idles old new site_old site_new input_old input_new out_old out_new ending BadWords
+Session g k w (Some Check) old new site_old site_new input_old input_new out_old out_new ending =
+    Idles old new site_old site_new input_old input_new out_old out_new ending BadWords
+Session g k w (Some (Log from count)) old new site_old site_new input_old input_new out_old out_new ending =
+    Idles old new site_old site_new input_old input_new out_old out_new ending BadWords
+Session g k w (Some (Simulate seed count)) old new site_old site_new input_old input_new out_old out_new ending =
+    Idles old new site_old site_new input_old input_new out_old out_new ending BadWords
+Session g k w (Some (Serve port workers connections)) old new site_old site_new input_old input_new out_old out_new ending =
+    Idles old new site_old site_new input_old input_new out_old out_new ending BadWords
+
+-- the command's session; or memory was wanting for its words, and nothing was done
+abbrev pub Obeys : {D C W : Type 0} (g : disk.Ghosts D) (k : clock.Ghosts C) (w : words.Ghosts W) → Option Command → Devices D C W → Devices D C W → Stream → Stream → Stream → Stream → Stream → Stream → Ending → Type 0
+Obeys g k w command old new site_old site_new input_old input_new out_old out_new ending =
+    Idles old new site_old site_new input_old input_new out_old out_new ending NoMemory
+    ⊎ Session g k w command old new site_old site_new input_old input_new out_old out_new ending
 
 -- The session up to `mid` of the output, its status, and the line of its fault behind what it put.
 pub record Top {D C W : Type 0} (g : disk.Ghosts D) (k : clock.Ghosts C) (w : words.Ghosts W) (command : Option Command) (old new : Devices D C W) (site_old site_new input_old input_new out_old out_new : Stream) (status : ℕ) : Type 0 where
   pub ending : Ending
   pub mid : Stream
-  pub session : Session g k w command old new site_old site_new input_old input_new out_old mid ending
+  pub session : Obeys g k w command old new site_old site_new input_old input_new out_old mid ending
   pub is : status ≡ status_of ending
   pub tells : Puts mid.bytes out_new.bytes (Tells (fault_line ending) mid.faults out_new.faults)
   pub later : mid.faults ≤ out_new.faults

@@ -3,7 +3,6 @@
 #![tactic(auto)]
 
 mod answer;
-mod command;
 mod ending;
 mod fault;
 mod fault_line;
@@ -15,9 +14,9 @@ mod script;
 mod sessions;
 mod site_file;
 mod top;
+mod words;
 
 pub use answer::{Answer, answer_line, print};
-pub use command::{Command, read_command, site_path};
 pub use ending::{Ending, status_of};
 pub use fault::Fault;
 pub use fault_line::end_with;
@@ -26,3 +25,4 @@ pub use request::turn;
 pub use script::run;
 pub use sessions::{make_store, run_store};
 pub use top::site_top;
+pub use words::site_path;

@@ -1,14 +1,15 @@
 //! The program's one call.
-ghost use Rattle.std.specs.Prelude.{◌≡◌, ◌≤◌, ◌↔◌, None, Some, map, string_bytes};
-ghost use Rattle.site_console.specs.Commands.{command_of};
+ghost use Rattle.std.specs.Prelude.{◌≡◌, ◌≤◌, ◌⊎◌, Some, map, string_bytes, true};
+ghost use Rattle.command_words.specs.Commands.{command_of};
+ghost use Rattle.command_words.specs.declared.command.Command.TheVariants.{Init, Run};
+ghost use Rattle.site_console.specs.Commands.{is_refused};
 ghost use Rattle.site_console.specs.Endings.{fault_line, status_of};
-ghost use Rattle.site_console.specs.Top.{CanInit, CanRun, IsDone, IsStatus, NoneFailed, Session, Top};
-ghost use Rattle.site_console.specs.declared.command.Command.TheVariants.{Init, Run};
+ghost use Rattle.site_console.specs.Top.{CanInit, CanRun, IsDone, IsStatus, NoneFailed, Obeys, Session, Top};
 
-use crate::command::{Command, read_command};
 use crate::ending::Ending;
 use crate::fault_line::end_with;
 use crate::sessions::{make_store, run_store};
+use command_words::{Command, read_command};
 use outside::{Clock, Disk, Sink, Source, Words};
 use site_store::{Devices, one_history};
 use std::alloc::Global;
@@ -25,9 +26,11 @@ pub fn site_top<S: Source, I: Source, O: Sink, D: Disk, C: Clock, W: Words>(
 ) -> (u8, Devices<D, C, W>)
     ensures statuses { IsStatus result.0 }
 
-    // With other words no device was called, but for the fault's line.
-    ensures bad_words { (result.0 ≡ 2) ↔ (command_of (map string_bytes args.now) ≡ None) }
-    ensures refused { command_of (map string_bytes args.now) ≡ None → (site.new ≡ site.old) × (input.new ≡ input.old) × (result.1 ≡ devices) }
+    // The words are refused exactly where they are those of no command, or of `report`, `export`, `check`, `log`, `sim` or
+    // `serve`, which the program doesn't have yet; or memory is wanting. Then no device was called, but for the fault's line.
+    ensures bad_words { result.0 ≡ 2 → is_refused (command_of (map string_bytes args.now)) ≡ true }
+    ensures refused { is_refused (command_of (map string_bytes args.now)) ≡ true
+        → ((result.0 ≡ 2) ⊎ (result.0 ≡ 11)) × (site.new ≡ site.old) × (input.new ≡ input.old) × (result.1 ≡ devices) }
 
     ensures session { Top D.Disk C.Clock W.Words (command_of (map string_bytes args.now)) devices result.1
         (record { bytes = S.left site.old; faults = S.read_faults site.old }) (record { bytes = S.left site.new; faults = S.read_faults site.new })
@@ -57,15 +60,42 @@ fn obey<S: Source, I: Source, O: Sink, D: Disk, C: Clock, W: Words>(
     out: &mut O,
     devices: Devices<D, C, W>,
 ) -> (Ending, Devices<D, C, W>)
-    ensures session { Session D.Disk C.Clock W.Words (command_of (map string_bytes args.now)) devices result.1
+    ensures session { Obeys D.Disk C.Clock W.Words (command_of (map string_bytes args.now)) devices result.1
         (record { bytes = S.left site.old; faults = S.read_faults site.old }) (record { bytes = S.left site.new; faults = S.read_faults site.new })
         (record { bytes = I.left input.old; faults = I.read_faults input.old }) (record { bytes = I.left input.new; faults = I.read_faults input.new })
         (record { bytes = O.held out.old; faults = O.write_faults out.old }) (record { bytes = O.held out.new; faults = O.write_faults out.new }) result.0 }
-    ensures refused { command_of (map string_bytes args.now) ≡ None → (site.new ≡ site.old) × (input.new ≡ input.old) × (result.1 ≡ devices) }
+    ensures refused { is_refused (command_of (map string_bytes args.now)) ≡ true → (site.new ≡ site.old) × (input.new ≡ input.old) × (result.1 ≡ devices) }
 {
-    match read_command(args) {
-        Some(Command::Init) => make_store(alloc, site, out, devices),
-        Some(Command::Run) => run_store(alloc, input, out, devices),
-        None => (Ending::BadWords, devices),
+    match read_command(alloc, args) {
+        Ok(Some(command)) => carry_out(alloc, command, site, input, out, devices),
+        Ok(None) => (Ending::BadWords, devices),
+        Err(_) => (Ending::NoMemory, devices),
+    }
+}
+
+/// Carries out a command; one that the program doesn't have yet is refused as other words are.
+fn carry_out<S: Source, I: Source, O: Sink, D: Disk, C: Clock, W: Words>(
+    alloc: Global,
+    command: Command,
+    site: &mut S,
+    input: &mut I,
+    out: &mut O,
+    devices: Devices<D, C, W>,
+) -> (Ending, Devices<D, C, W>)
+    ensures session { Session D.Disk C.Clock W.Words (Some command) devices result.1
+        (record { bytes = S.left site.old; faults = S.read_faults site.old }) (record { bytes = S.left site.new; faults = S.read_faults site.new })
+        (record { bytes = I.left input.old; faults = I.read_faults input.old }) (record { bytes = I.left input.new; faults = I.read_faults input.new })
+        (record { bytes = O.held out.old; faults = O.write_faults out.old }) (record { bytes = O.held out.new; faults = O.write_faults out.new }) result.0 }
+    ensures refused { is_refused (Some command) ≡ true → (site.new ≡ site.old) × (input.new ≡ input.old) × (result.1 ≡ devices) }
+{
+    match command {
+        Command::Init => make_store(alloc, site, out, devices),
+        Command::Run => run_store(alloc, input, out, devices),
+        Command::Report { .. } => (Ending::BadWords, devices),
+        Command::Export { .. } => (Ending::BadWords, devices),
+        Command::Check => (Ending::BadWords, devices),
+        Command::Log { .. } => (Ending::BadWords, devices),
+        Command::Simulate { .. } => (Ending::BadWords, devices),
+        Command::Serve { .. } => (Ending::BadWords, devices),
     }
 }

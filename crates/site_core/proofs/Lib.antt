@@ -5,3 +5,6 @@ mod Roomy
 mod Standing
 mod Coming
 pub mod Logs
+mod Listing
+mod Making
+mod Owned

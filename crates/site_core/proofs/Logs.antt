@@ -59,6 +59,11 @@ entry_at told kept front more entry place k e long l is =
     ∙ ap (λ (n : ℕ). get_or (front ++ entry ∷ more) n entry) (sym long)
     ∙ get_or-append_seam front entry more entry
 
+-- the entry at a place
+pub entry_got : (told : List (List Told)) (kept : List Kept) (place : ℕ) (k : Kept) (e : Entry) → place < length kept → k ≡ get_or kept place k → get_or (history_in told kept) place e ≡ entry_in told k
+unfolding history_in
+entry_got told kept place k e l is = get_or-map (entry_in told) kept place k e l ∙ ap (entry_in told) (sym is)
+
 -- what stands on the page under its number is what is told at it
 pub told_is_at : (told : List (List Told)) (k : Kept) (t : Told) → IsPaged told k.station k.number → t ≡ get_or (told_by told k.station) (k.number - 1) t → t ≡ told_at told k
 unfolding told_at

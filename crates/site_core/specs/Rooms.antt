@@ -3,7 +3,10 @@ use Rattle.std.specs.Prelude.{◌≡◌, ◌+◌, ◌≤◌, ℕ, List, [], ◌�
 use Rattle.std.specs.List.{AllByRecursion}
 use Rattle.gs1_keys.specs.Forms.{is_among}
 use Rattle.deed_words.specs.Names.{Text}
+use Rattle.deed_words.specs.Happenings.{listed}
 use Rattle.serial_pool.specs.Held.{PlanView}
+use Rattle.move_list.specs.declared.moved.Moved.{Moved}
+use Rattle.move_list.specs.Held.{MoveRoom}
 use Rattle.site_stores.specs.declared.change.Change.{Change}
 use Rattle.site_stores.specs.Changes.{no_room, room_for, with_room}
 use Rattle.site_stores.specs.Holding as stores
@@ -35,6 +38,24 @@ abbrev pub IsKnown : List Text → Option PlanView → Type 0
 IsKnown gtins None = Unit {0}
 IsKnown gtins (Some plan) = is_among gtins plan.gtin ≡ true
 
+-- how many have a move, and how many one of the batch
+abbrev pub moves_count : List Planned → ℕ
+moves_count [] = 0
+moves_count (planned ∷ later) = length (listed planned.moved) + moves_count later
+
+abbrev pub of_batch : ℕ → Option Moved → ℕ
+of_batch batch None = 0
+of_batch batch (Some moved) = one_of moved.batch batch
+
+abbrev pub batch_count : ℕ → List Planned → ℕ
+batch_count batch [] = 0
+batch_count batch (planned ∷ later) = of_batch batch planned.moved + batch_count batch later
+
+-- there is room for the moves that these have
+pub record HasRoomToMove (room : MoveRoom) (later : List Planned) : Type 0 where
+  pub any : moves_count later ≤ room.any
+  pub own : (batch : ℕ) → batch_count batch later ≤ slice_index room.own batch
+
 -- there is room for all of these, one after the other
 pub record HasRoomFor (view : View) (later : List Planned) : Type 0 where
   pub entries : length later ≤ view.room.entries
@@ -42,12 +63,18 @@ pub record HasRoomFor (view : View) (later : List Planned) : Type 0 where
   pub stores : stores.IsWithin (changes_room later) view.room.stores
   pub serials : draws_room later ≤ view.room.serials
   pub gtins : AllByRecursion (λ planned. IsKnown view.room.gtins planned.draw) later
+  pub moves : HasRoomToMove view.room.moves later
 
 -- there is room for the change and the draw
 pub record FitsIn (room : Room) (change : Change) (draw : Option PlanView) : Type 0 where
   pub stores : stores.IsWithin (room_for change) room.stores
   pub serials : length (serials_drawn draw) ≤ room.serials
   pub gtin : IsKnown room.gtins draw
+
+-- the room for moves doesn't fall
+pub record HasMoreRoom (old new : MoveRoom) : Type 0 where
+  pub any : old.any ≤ new.any
+  pub own : (batch : ℕ) → slice_index old.own batch ≤ slice_index new.own batch
 
 -- the room doesn't fall
 pub record IsRoomier (old new : Room) : Type 0 where
@@ -56,3 +83,4 @@ pub record IsRoomier (old new : Room) : Type 0 where
   pub stores : stores.IsWithin old.stores new.stores
   pub serials : old.serials ≤ new.serials
   pub gtins : (gtin : Text) → is_among old.gtins gtin ≡ true → is_among new.gtins gtin ≡ true
+  pub moves : HasMoreRoom old.moves new.moves

@@ -33,16 +33,19 @@ impl Site {
             reply,
             change,
             draw,
+            moved,
         } = planned;
         self.stores.apply(&change);
         let done = commit_draw(&mut self.pool, draw);
         let (kept, deed, drawn) = Kept::split(entry);
         self.memo.push(kept.station(), deed, reply);
         self.kept.push_reserved(kept);
+        let has_moved = self.moves.push(moved);
         Committed {
             drawn,
             change,
             draw: done,
+            has_moved,
             planned: whole,
         }
     }
@@ -62,17 +65,20 @@ impl Site {
             drawn,
             change,
             draw: done,
+            has_moved,
             planned: _,
         } = committed;
         self.stores.take_back(&change);
         let draw = take_back_draw(&mut self.pool, done);
         let kept = self.kept.take_last();
         let (deed, reply) = self.memo.unpush(kept.station());
+        let moved = self.moves.take_back(has_moved);
         Planned {
             entry: kept.entry(deed, drawn),
             reply,
             change,
             draw,
+            moved,
         }
     }
 }

@@ -7,15 +7,19 @@
 #![tactic(auto)]
 
 mod committing;
+mod keeping;
 mod kept;
 mod laws;
+mod looking;
 mod planned;
 mod planning;
 mod site;
 mod unlawful;
 mod views;
 
+pub use batch_report::{BatchView, LineRow, Lines};
 pub use laws::{the_first_has_room, the_trade_holds, there_and_back};
+pub use move_list::Moves;
 pub use planned::{Committed, Planned};
 pub use site::Site;
 pub use site_deeds::PlanFault;

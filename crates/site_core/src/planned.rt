@@ -3,6 +3,7 @@ ghost use Rattle.std.specs.Prelude.{◌≡◌};
 
 use deed_words::{Entry, Reply};
 use gs1_keys::Serials;
+use move_list::Moved;
 use serial_pool::{DrawDone, DrawPlan};
 use site_stores::Change;
 use std::marker::Model;
@@ -17,6 +18,8 @@ pub struct Planned {
     pub(crate) change: Change,
     /// What the pool draws for it.
     pub(crate) draw: Option<DrawPlan>,
+    /// What is kept of its move, if it has one.
+    pub(crate) moved: Option<Moved>,
 }
 
 impl Planned {
@@ -42,16 +45,18 @@ pub struct Committed {
     pub(crate) drawn: Serials,
     pub(crate) change: Change,
     pub(crate) draw: Option<DrawDone>,
+    /// Whether it has a move.
+    pub(crate) has_moved: bool,
     pub(crate) planned: Snapshot<Planned>,
 }
 
 impl Model for Committed {
-    ghost use Rattle.std.specs.Prelude.{◌≡◌};
+    ghost use Rattle.std.specs.Prelude.{◌≡◌, is_some};
     ghost use Rattle.site_core.specs.declared.planned.Planned.{Planned as ThePlanned};
 
     ghost Value = { ThePlanned };
 
     ghost view = { λ c. c.planned.value };
 
-    ghost invariant = { λ c. (c.drawn ≡ c.planned.value.entry.drawn) × (c.change ≡ c.planned.value.change) × (c.draw ≡ c.planned.value.draw) };
+    ghost invariant = { λ c. (c.drawn ≡ c.planned.value.entry.drawn) × (c.change ≡ c.planned.value.change) × (c.draw ≡ c.planned.value.draw) × (c.has_moved ≡ is_some c.planned.value.moved) };
 }

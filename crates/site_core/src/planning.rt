@@ -1,5 +1,5 @@
 //! The next entry: of a request, and of an entry that was read back.
-ghost use Rattle.std.specs.Prelude.{◌≡◌, ◌<◌, ◌≤◌, ◌+◌, ◌^◌, ◌∷◌, [], List, length, IfOk, IfErr, IfSome, IfNone, OnOk, slice_index};
+ghost use Rattle.std.specs.Prelude.{◌≡◌, ◌<◌, ◌≤◌, ◌+◌, ◌^◌, ◌∷◌, [], List, length, map, IfOk, IfErr, IfSome, IfNone, OnOk, slice_index};
 ghost use Rattle.outside.specs.Causes.{HasCauseIf};
 ghost use Rattle.outside.specs.Devices.{Takes};
 ghost use Rattle.deed_words.specs.History.{own, last_stamp, world_of, MayDraw};
@@ -16,13 +16,20 @@ ghost use Rattle.site_deeds.specs.declared.fault.KnownFault.TheVariants.{NotDraw
 ghost use Rattle.site_core.specs.declared.planned.Planned.{Planned as ThePlanned};
 ghost use Rattle.site_core.specs.Adopting.{Fails, FailsEarly, IsStamped};
 ghost use Rattle.site_core.specs.Plans.{Plans, IsNext};
-ghost use Rattle.site_core.specs.Rooms.{HasRoomFor, FitsIn, IsKnown, IsRoomier};
+ghost use Rattle.deed_words.specs.Happenings.{listed, moved_by};
+ghost use Rattle.deed_words.specs.Replies.{reply_to};
+ghost use Rattle.deed_words.specs.declared.entry.Entry.{Entry as TheEntry};
+ghost use Rattle.move_list.specs.Held.{HasRoom};
+ghost use Rattle.move_list.specs.Kept.{kept_of};
+ghost use Rattle.site_core.specs.Rooms.{HasRoomFor, HasMoreRoom, FitsIn, IsKnown, IsRoomier};
 
+use crate::keeping::kept_move;
 use crate::planned::Planned;
 use crate::site::{Site, count_entries, stamp_of_last};
 use crate::unlawful::Unlawful;
-use deed_words::{Ask, Deed, Entry, Setup, StationId};
+use deed_words::{Ask, Deed, Entry, Reply, Setup, StationId};
 use gs1_keys::{Memory, Serials};
+use move_list::{MoveList, Moved};
 use outside::Words;
 use request_memo::Memo;
 use serial_pool::DrawPlan;
@@ -65,10 +72,14 @@ impl Site {
         let Ok(drawn) = drawn_serials(self.alloc, &decided.draw) else {
             return Err(PlanFault::Memory);
         };
-        let Ok(()) = self.ready(ask.station) else {
+        let Ok(moved) = self.kept_move(&ask.deed, &decided.reply) else {
             return Err(PlanFault::Memory);
         };
-        Ok(planned(entry_of(worker, ask, stamp, drawn), decided))
+        let Ok(()) = self.ready(ask.station, &moved) else {
+            return Err(PlanFault::Memory);
+        };
+        let entry = entry_of(worker, ask, stamp, drawn);
+        Ok(planned(entry, decided, moved))
     }
 
     /// Checks an entry that was read back: it may come next, with the reply that it gets and what it changes, and there
@@ -97,10 +108,13 @@ impl Site {
             Err(KnownFault::NotDrawn) => return Err(Unlawful::BadDrawn),
             Err(KnownFault::Memory) => return Err(Unlawful::Memory),
         };
-        let Ok(()) = self.ready(entry.station) else {
+        let Ok(moved) = self.kept_move(&entry.deed, &decided.reply) else {
             return Err(Unlawful::Memory);
         };
-        Ok(planned(entry, decided))
+        let Ok(()) = self.ready(entry.station, &moved) else {
+            return Err(Unlawful::Memory);
+        };
+        Ok(planned(entry, decided, moved))
     }
 
     /// What comes of a deed, and room for it.
@@ -161,19 +175,53 @@ impl Site {
         fault_of(&self.setup, &self.memo, stamp_of_last(&self.kept), entry)
     }
 
-    /// Makes room for one more entry of the station.
-    fn ready(&mut self, station: StationId) -> Result<(), Memory>
+    /// What is kept of the move of the next entry, if it has one: of an entry with this deed that gets this reply.
+    ///
+    /// # Errors
+    ///
+    /// `Memory` where no memory was found, or there are 2^32 - 1 entries.
+    fn kept_move(&self, deed: &Deed, reply: &Reply) -> Result<Option<Moved>, Memory>
+        ensures few { IfOk result (λ moved. length self.now.history + 1 < 2 ^ 32) }
+        ensures moved { IfOk result (λ moved. (entry : TheEntry) → entry.deed ≡ deed.now → reply.now ≡ reply_to self.now.setup (world_of self.now.setup self.now.history) entry
+            → map kept_of (moved_by self.now.setup (world_of self.now.setup self.now.history) (length self.now.history) entry (broken self.now.setup (world_of self.now.setup self.now.history) entry.station entry.deed)) ≡ listed moved) }
+    {
+        let place = count_entries(&self.kept);
+        if place >= MOST_ENTRIES {
+            return Err(Memory);
+        }
+        kept_move(self.alloc, &self.stores, place as u32, deed, reply)
+    }
+
+    /// Makes room for one more entry of the station, with its move, if it has one.
+    fn ready(&mut self, station: StationId, moved: &Option<Moved>) -> Result<(), Memory>
         requires { station < length self.old.setup.stations }
         ensures same { (self.new.setup ≡ self.old.setup) × (self.new.history ≡ self.old.history) × (self.new.content ≡ self.old.content) }
         ensures entries { OnOk result (1 ≤ self.new.room.entries) }
         ensures numbers { OnOk result (1 ≤ slice_index self.new.room.numbers station) }
+        ensures moves { OnOk result (HasRoom self.new.room.moves moved.now) }
         ensures kept { IsRoomier self.old.room self.new.room }
     {
         self.memo.ready(station)?;
+        ready_move(&mut self.moves, moved)?;
         let Ok(()) = self.kept.reserve(1) else {
             return Err(Memory);
         };
         Ok(())
+    }
+}
+
+/// How many entries a site has at most: their places and their number are kept in 32 bits.
+const MOST_ENTRIES: usize = 0xFFFF_FFFF;
+
+/// Makes room for the move, if there is one.
+fn ready_move(moves: &mut MoveList, moved: &Option<Moved>) -> Result<(), Memory>
+    ensures same { moves.new.moves ≡ moves.old.moves }
+    ensures ok { OnOk result (HasRoom moves.new.room moved.now) }
+    ensures kept { HasMoreRoom moves.old.room moves.new.room }
+{
+    match moved {
+        Some(moved) => moves.ready(moved.batch),
+        None => Ok(()),
     }
 }
 
@@ -184,20 +232,6 @@ fn drawn_serials(alloc: Global, draw: &Option<DrawPlan>) -> Result<Serials, Memo
     match draw {
         Some(plan) => plan.serials().copy(),
         None => Ok(Serials::new(alloc)),
-    }
-}
-
-/// The draw, where it has a serial.
-fn some_draw(draw: Option<DrawPlan>) -> Option<DrawPlan>
-    ensures serials { serials_drawn result ≡ serials_drawn draw }
-    ensures drawn { drawn_by_plan result ≡ drawn_by_plan draw }
-    ensures may { (pairs : List DrawnSerial) → MayCommit pairs draw → MayCommit pairs result }
-    ensures known { (gtins : List Text) → IsKnown gtins draw → IsKnown gtins result }
-    ensures some { IfSome result (λ plan. 0 < length plan.serials) }
-{
-    match draw {
-        Some(plan) if !plan.serials().is_empty() => Some(plan),
-        _ => None,
     }
 }
 
@@ -217,7 +251,8 @@ fn entry_of(worker: u8, ask: Ask, stamp: u64, drawn: Serials) -> Entry
 }
 
 /// The entry with what comes of it.
-fn planned(entry: Entry, decided: Decided) -> Planned
+fn planned(entry: Entry, decided: Decided, moved: Option<Moved>) -> Planned
+    requires some { IfSome decided.draw (λ plan. 0 < length plan.serials) }
     ensures entry { result.entry ≡ entry }
     ensures reply { result.reply ≡ decided.reply }
     ensures change { result.change ≡ decided.change }
@@ -226,12 +261,14 @@ fn planned(entry: Entry, decided: Decided) -> Planned
     ensures may { (pairs : List DrawnSerial) → MayCommit pairs decided.draw → MayCommit pairs result.draw }
     ensures known { (gtins : List Text) → IsKnown gtins decided.draw → IsKnown gtins result.draw }
     ensures some { IfSome result.draw (λ plan. 0 < length plan.serials) }
+    ensures moved { result.moved ≡ moved }
 {
     Planned {
         entry,
         reply: decided.reply,
         change: decided.change,
-        draw: some_draw(decided.draw),
+        draw: decided.draw,
+        moved,
     }
 }
 

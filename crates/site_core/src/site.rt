@@ -18,6 +18,7 @@ use deed_words::{
     BatchId, Deed, Setup, StationId, soundness_is_kept, station_of, worlds_are_proper,
 };
 use gs1_keys::{Memory, Text20};
+use move_list::MoveList;
 use request_memo::{Memo, Seen};
 use serial_pool::Pool;
 use site_stores::Stores;
@@ -37,13 +38,15 @@ pub struct Site {
     pub(crate) stores: Stores,
     /// The serials that were drawn.
     pub(crate) pool: Pool,
+    /// What is kept of its moves.
+    pub(crate) moves: MoveList,
 }
 
 impl Model for Site {
     ghost use Rattle.std.specs.Prelude.{◌-◌, vec_len, vec_capacity};
     ghost use Rattle.site_core.specs.View.{View};
     ghost use Rattle.site_core.specs.Entries.{history_in};
-    ghost use Rattle.site_core.specs.Standing.{Stands};
+    ghost use Rattle.site_core.specs.Standing.{IsKept};
 
     ghost Value = { View };
 
@@ -51,10 +54,10 @@ impl Model for Site {
       setup = s.setup;
       history = history_in s.memo.told s.kept.items;
       content = s.stores.content;
-      room = record { entries = vec_capacity s.kept - vec_len s.kept; numbers = s.memo.room; stores = s.stores.room; serials = s.pool.room; gtins = s.pool.gtins };
+      room = record { entries = vec_capacity s.kept - vec_len s.kept; numbers = s.memo.room; stores = s.stores.room; serials = s.pool.room; gtins = s.pool.gtins; moves = s.moves.room };
     } };
 
-    ghost invariant = { λ s. Stands s.setup (history_in s.memo.told s.kept.items) s.memo.told s.stores.content s.pool };
+    ghost invariant = { λ s. IsKept s.setup (history_in s.memo.told s.kept.items) s.memo.told s.stores.content s.pool s.moves.moves };
 }
 
 impl Site {
@@ -76,6 +79,7 @@ impl Site {
             memo,
             stores: Stores::new(alloc),
             pool: Pool::new(alloc),
+            moves: MoveList::new(alloc),
         })
     }
 

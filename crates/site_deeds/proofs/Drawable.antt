@@ -68,6 +68,13 @@ asked_few site w station name count e =
     let range = neither (nat_eq count 0) (nat_lt 10000 count) (when_None (nat_eq count 0 || nat_lt 10000 count) (rule.CountOutOfRange 10000) p.1.1.1.0) in
     grind (arith, nat_tests, range.1)
 
+-- and for some
+pub asked_some : (site : Setup) (w : World) (station : ℕ) (name : Text) (count : ℕ) → broken site w station (Draw name count) ≡ None → 0 < count
+asked_some site w station name count e =
+    let found = drawable_batch site w station name count e in
+    let some = (drawable site w station name count found.0 e found.1).some in
+    omega (arith, some)
+
 -- the serials of the GTIN are as many as its rows
 pub drawn_count_is : (w : World) (pairs : List DrawnSerial) (gtin : Text) → pairs ≡ drawn_in w → drawn_count gtin pairs ≡ length (rows_of_gtin w gtin)
 unfolding serials_of rows_of_gtin

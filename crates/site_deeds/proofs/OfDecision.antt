@@ -1,6 +1,6 @@
 -- What comes of a deed.
-use Rattle.std.proofs.Common.{◌≡◌, ℕ, Bool, true, false, true≢false, List, [], ◌++◌, map, Option, None, Some, refl, ap, ap₂, sym, ◌∙◌, subst, append-nil}
-use Rattle.std.specs.Prelude.{IsTrue, ◌↔◌, Ok, Err, if◌then◌else◌}
+use Rattle.std.proofs.Common.{◌≡◌, arith, ℕ, Bool, true, false, true≢false, List, [], ◌++◌, ◌<◌, map, length, Option, None, Some, refl, ap, ap₂, sym, ◌∙◌, subst, append-nil}
+use Rattle.std.specs.Prelude.{IfSome, IsTrue, ◌↔◌, Ok, Err, if◌then◌else◌}
 use Rattle.epc_urn.specs.declared.epc.Epc.{Epc}
 use Rattle.serial_pool.specs.Held.{PoolView, PlanView, IsPlanFor, HasRoomFor, drawn_for}
 use Rattle.deed_words.specs.Effects.{effect, gtin_of, rewrite, with_rows, moved_row, lent_to, lent_rows, with_orders, with_phase, with_quantity, with_drawn, with_unit, with_mark, with_children, without_children, emptied, with_declaration}
@@ -21,8 +21,9 @@ use Rattle.deed_words.specs.declared.rule.Rule.{Rule}
 use Rattle.deed_words.specs.declared.world.Row.{Row}
 use Rattle.deed_words.proofs.Items.{map-map}
 use Rattle.batch_book.specs.Content.{Content, world_in}
+use Rattle.site_rules.specs.Asked.{IsFound}
 use Rattle.site_rules.specs.Suits.{is_draw}
-use Rattle.site_stores.specs.Places.{place_of}
+use Rattle.site_rules.specs.declared.found.Found.{Found}
 use Rattle.site_stores.specs.declared.change.Change.{Change}
 use Rattle.site_stores.specs.declared.change.Change.TheVariants.{Nothing}
 use Rattle.site_stores.specs.Changes.{applied, MayApply, MayChange, room_for}
@@ -37,7 +38,8 @@ use Rattle.site_deeds.specs.declared.fault.PlanFault.TheVariants.{Memory, WordsF
 use Rattle.site_deeds.specs.Decisions.{IsOf, serials_drawn, IsDecided, Decides}
 use Rattle.site_deeds.specs.Does.{Does, DoesDeed}
 use Rattle.site_deeds.specs.DrawEnds.{DrawEnds}
-use Rattle.site_deeds.specs.Draws.{Draws, Spends, Stops, drawn_serial, drawn_in, drawn_by_plan, MayCommit, HasRoomToDraw}
+use Rattle.site_deeds.specs.Draws.{Draws, Spends, Stops, MayTake, drawn_serial, drawn_in, drawn_by_plan, MayCommit, HasRoomToDraw}
+use Rattle.site_deeds.proofs.Drawable.{asked_some}
 use Rattle.site_deeds.proofs.Serials.{drawn_more}
 
 -- ---- the serials that were drawn stay, but for a draw
@@ -91,6 +93,10 @@ refused_may_draw : (site : Setup) (w : World) (rule : Rule) (deed : Deed) → Ma
 unfolding MayDraw
 refused_may_draw site w rule deed = refl
 
+-- where nothing is drawn, no draw is empty
+none_has : (draw : Option PlanView) → draw ≡ None → IfSome draw (λ plan. 0 < length plan.serials)
+none_has draw e = subst (λ (o : Option PlanView). IfSome o (λ plan. 0 < length plan.serials)) (sym e) tt
+
 -- ---- a deed that breaks a rule
 
 module _ (site : Setup) (c : Content) (station : ℕ) (deed : Deed) where
@@ -110,6 +116,7 @@ module _ (site : Setup) (c : Content) (station : ℕ) (deed : Deed) where
         effect = λ entry of. ap (λ (ch : Change). world_in (applied c ch)) change ∙ sym (ap (unless_broken site w entry) (same_rule [] entry (Some rule) of e));
         draw_is = ap (λ (ch : Change). drawn_in (world_in (applied c ch))) change ∙ sym (append-nil (drawn_in w)) ∙ sym (ap (λ (p : Option PlanView). drawn_in w ++ drawn_by_plan p) draw);
         new = subst (MayCommit (drawn_in w)) (sym draw) tt;
+        some = none_has decided.draw draw;
       }
 
   -- with the serials of the plan that it has
@@ -139,9 +146,9 @@ room_left held done decided answer w same d = subst (λ (ch : Change). IsWithin 
 module _ (site : Setup) (held : Held) (station : ℕ) (deed : Deed) where
   done_by : (decided : Decided) (done : Done) (drawn : List Text) → broken site (world_in held.content) station deed ≡ None → DoesDeed site held station deed drawn done → decided.reply ≡ Accepted done.answer → decided.change ≡ done.change
       → serials_drawn decided.draw ≡ drawn → MayDraw site (world_in held.content) None deed drawn → drawn_in (effect site (world_in held.content) station deed drawn) ≡ drawn_in (world_in held.content) ++ drawn_by_plan decided.draw → MayCommit (drawn_in (world_in held.content)) decided.draw
-      → IsDecided site held.content station deed drawn decided
+      → IfSome decided.draw (λ plan. 0 < length plan.serials) → IsDecided site held.content station deed drawn decided
   unfolding reply_to replied after unless_broken
-  done_by decided done drawn e does reply change told may_draw grows new =
+  done_by decided done drawn e does reply change told may_draw grows new some =
       let c = held.content in
       let w = world_in c in
       let made : world_in (applied c decided.change) ≡ effect site w station deed drawn = ap (λ (ch : Change). world_in (applied c ch)) change ∙ does.effect_is in
@@ -156,6 +163,7 @@ module _ (site : Setup) (held : Held) (station : ℕ) (deed : Deed) where
         effect = λ entry of. made ∙ effects entry of ∙ sym (ap (unless_broken site w entry) (same_rule site c station deed drawn entry None of e));
         draw_is = ap drawn_in made ∙ grows;
         new = new;
+        some = some;
       }
 
   pub done_decided : (decided : Decided) (done : Done) → is_draw deed ≡ false → broken site (world_in held.content) station deed ≡ None → DoesDeed site held station deed [] done → decided.reply ≡ Accepted done.answer → decided.change ≡ done.change → decided.draw ≡ None
@@ -163,7 +171,7 @@ module _ (site : Setup) (held : Held) (station : ℕ) (deed : Deed) where
   done_decided decided done other e does reply change draw =
       let w = world_in held.content in
       done_by decided done [] e does reply change (ap serials_drawn draw) (none_may_draw site w deed other)
-      (keeps_drawn site w station deed [] other ∙ sym (append-nil (drawn_in w)) ∙ sym (ap (λ (p : Option PlanView). drawn_in w ++ drawn_by_plan p) draw)) (subst (MayCommit (drawn_in w)) (sym draw) tt)
+      (keeps_drawn site w station deed [] other ∙ sym (append-nil (drawn_in w)) ∙ sym (ap (λ (p : Option PlanView). drawn_in w ++ drawn_by_plan p) draw)) (subst (MayCommit (drawn_in w)) (sym draw) tt) (none_has decided.draw draw)
 
 -- the same with the words that were taken: none
 pub other_decides : (site : Setup) (c : Content) (station : ℕ) (deed : Deed) (decided : Decided) → is_draw deed ≡ false → broken site (world_in c) station deed ≡ None → IsDecided site c station deed [] decided → Decides site c station deed [] (Ok decided)
@@ -181,6 +189,7 @@ module _ (site : Setup) (held : Held) (station : ℕ) (name : Text) (count : ℕ
       done_by site held station (Draw name count) decided done plan.serials e does reply change (ap serials_drawn draw) new
       (sym (drawn_more w.rows (gtin_of w name) name plan.serials) ∙ ap (λ (g : Text). drawn_in w ++ drawn_for g plan.serials) (sym gtin) ∙ sym (ap (λ (p : Option PlanView). drawn_in w ++ drawn_by_plan p) draw))
       (subst (MayCommit (drawn_in w)) (sym draw) fits)
+      (subst (λ (o : Option PlanView). IfSome o (λ p. 0 < length p.serials)) (sym draw) (subst (λ (n : ℕ). 0 < n) (sym new.counted) (asked_some site w station name count e)))
 
 -- the same with the words that were taken
 pub draw_decides : (site : Setup) (c : Content) (station : ℕ) (name : Text) (count : ℕ) (decided : Decided) (plan : PlanView) (taken : List ℕ) → broken site (world_in c) station (Draw name count) ≡ None → IsDecided site c station (Draw name count) plan.serials decided
@@ -190,10 +199,28 @@ draw_decides site c station name count decided plan taken e d ends = told_so sit
 
 -- a draw that couldn't be planned
 pub failed_decides : (site : Setup) (c : Content) (station : ℕ) (name : Text) (count : ℕ) (taken : List ℕ) (fault : PlanFault) → broken site (world_in c) station (Draw name count) ≡ None → DrawEnds site (world_in c) name count taken (Err fault) → Decides site c station (Draw name count) taken (Err fault)
-unfolding Spends Stops
+unfolding Spends Stops MayTake
 failed_decides site c station name count taken (WordsSpent found) e ends = subst (λ (r : Option Rule). Spends site (world_in c) r (Draw name count) taken found) (sym e) ends
 failed_decides site c station name count taken WordsFault e ends = subst (λ (r : Option Rule). Stops site (world_in c) r (Draw name count) taken) (sym e) ends
-failed_decides site c station name count taken Memory e ends = tt
+failed_decides site c station name count taken Memory e ends = subst (λ (r : Option Rule). MayTake r (Draw name count) taken) (sym e) ends
+
+-- ---- want of memory
+
+pub none_taken : (rule : Option Rule) (deed : Deed) → MayTake rule deed []
+unfolding MayTake
+none_taken None (Draw name count) = omega arith
+none_taken rule deed = refl
+
+-- what was drawn took no more words than it may
+pub draws_take : (site : Setup) (w : World) (rule : Option Rule) (deed : Deed) (taken : List ℕ) (drawn : List Text) → Draws site w rule deed taken drawn → MayTake rule deed taken
+unfolding Draws MayTake
+draws_take site w None (Draw name count) taken drawn is = is.within
+draws_take site w rule deed taken drawn is = is.0
+
+-- a draw that was planned, and couldn't be done
+pub undone_decides : (site : Setup) (c : Content) (station : ℕ) (name : Text) (count : ℕ) (taken : List ℕ) (plan : PlanView) → broken site (world_in c) station (Draw name count) ≡ None → DrawEnds site (world_in c) name count taken (Ok plan) → Decides site c station (Draw name count) taken (Err Memory)
+unfolding MayTake
+undone_decides site c station name count taken plan e ends = subst (λ (r : Option Rule). MayTake r (Draw name count) taken) (sym e) ends.within
 
 -- where nothing is drawn, there is room for it
 pub no_room_needed : (draw : Option PlanView) (pool : PoolView) → draw ≡ None → HasRoomToDraw pool draw
@@ -235,6 +262,6 @@ pub breaks : (site : Setup) (c : Content) (station : ℕ) (deed : Deed) (judged 
 unfolding IsJudged
 breaks site c station deed judged rule j is = subst (IsJudged site c station deed) is j
 
-pub allows : (site : Setup) (c : Content) (station : ℕ) (deed : Deed) (judged : Judged) (places : _) → IsJudged site c station deed judged → judged ≡ Allowed places → (broken site (world_in c) station deed ≡ None) × (places.items ≡ map (place_of c.rows c.units) (named (world_in c) deed))
+pub allows : (site : Setup) (c : Content) (station : ℕ) (deed : Deed) (judged : Judged) (found : Found) → IsJudged site c station deed judged → judged ≡ Allowed found → (broken site (world_in c) station deed ≡ None) × IsFound c deed found
 unfolding IsJudged
-allows site c station deed judged places j is = subst (IsJudged site c station deed) is j
+allows site c station deed judged found j is = subst (IsJudged site c station deed) is j

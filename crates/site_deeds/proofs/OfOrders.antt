@@ -1,20 +1,25 @@
 -- Orders that are new.
-use Rattle.std.proofs.Common.{◌≡◌, ◌+◌, ◌-◌, ◌<◌, ◌≤◌, ℕ, suc, Bool, true, false, ◌||◌, List, [], ◌∷◌, ◌++◌, length, map, drop, get_or, All, refl, sym, ap, ◌∙◌, subst, arith, append_assoc, add-one, true≢false, drop_of_length-le}
+use Rattle.std.proofs.Common.{◌≡◌, ◌-◌, ◌≤◌, ℕ, suc, Bool, true, false, ◌||◌, List, [], ◌∷◌, ◌++◌, length, map, Some, All, refl, sym, ap, ◌∙◌, subst, arith, true≢false}
 use Rattle.std.specs.Prelude.{if◌then◌else◌}
 use Rattle.std.specs.List.{list_any}
-use Rattle.std.proofs.Math.Seq.{drop-cons}
 use Rattle.std.proofs.lemmas.List.{map-append, append-nil}
 use Rattle.std.proofs.lemmas.List.Elements.{All-cons}
-use Rattle.std.proofs.lemmas.List.Folds.{list_any-append}
+use Rattle.deed_words.specs.Deeds.{order_rows}
 use Rattle.deed_words.specs.Effects.{with_orders}
 use Rattle.deed_words.specs.Names.{Text, same}
 use Rattle.deed_words.specs.Orders.{is_ordered, new_orders, orders_in}
+use Rattle.deed_words.specs.declared.deed.Deed.{Deed}
 use Rattle.deed_words.specs.declared.deed.OrderRow.{OrderRow}
 use Rattle.deed_words.specs.declared.reply.Answer.TheVariants.{Orders}
 use Rattle.deed_words.specs.declared.world.Batch.{Batch}
 use Rattle.pack_tree.specs.Stepping.{MayStep}
 use Rattle.batch_book.specs.Batches.{is_called, planned}
-use Rattle.batch_book.specs.Content.{world_in}
+use Rattle.batch_book.specs.Content.{Content, world_in}
+use Rattle.site_rules.specs.Asked.{IsFound}
+use Rattle.site_rules.specs.Origins.{origin_of, AreOrigins}
+use Rattle.site_rules.specs.Rows.{kept}
+use Rattle.site_rules.specs.declared.found.Found.{Found}
+use Rattle.site_rules.specs.declared.origins.Origin.{Origin}
 use Rattle.site_stores.specs.declared.change.Change.TheVariants.{Ordered}
 use Rattle.site_stores.specs.Changes.{MayChange, MayOrder}
 use Rattle.site_stores.specs.Holding.{Held, IsWhole}
@@ -23,43 +28,18 @@ use Rattle.site_deeds.specs.declared.done.Done.{Done}
 use Rattle.site_deeds.specs.Does.{Does}
 use Rattle.site_deeds.proofs.Shared.{does_by}
 
--- ---- rows one after the other
+-- the origins that were found for the deed's rows
+pub found_origins : (c : Content) (deed : Deed) (found : Found) (rows : List OrderRow) (origins : List Origin) → IsFound c deed found → rows ≡ order_rows deed → origins ≡ found.origins.items → AreOrigins c rows origins
+found_origins c deed found rows origins is same_rows same_origins =
+    ap (map Some) same_origins ∙ is.origins_are ∙ ap (λ (rs : List OrderRow). map (λ (row : OrderRow). origin_of c rs row.batch) rs) (sym same_rows)
 
-abbrev pub grown : List OrderRow → List OrderRow → OrderRow → List OrderRow
-grown orders new row = if is_ordered (orders ++ new) row.batch then new else new ++ row ∷ []
+-- ---- rows that are new
 
-pub ordered_in_both : (orders new : List OrderRow) (name : Text) → is_ordered (orders ++ new) name ≡ (is_ordered orders name || is_ordered new name)
-unfolding is_ordered
-ordered_in_both orders new name = list_any-append (λ (o : OrderRow). same o.batch name) orders new
+pub kept_old : (is_new : Bool) (new : List OrderRow) (row : OrderRow) → is_new ≡ false → new ≡ new ++ kept is_new row
+kept_old is_new new row e = sym (ap (λ (b : Bool). new ++ kept b row) e ∙ append-nil new)
 
-pub kept_as_is : (b : Bool) (new more : List OrderRow) → b ≡ true → new ≡ (if b then new else more)
-kept_as_is b new more e = sym (ap (λ (t : Bool). if t then new else more) e)
-
-pub kept_more : (b : Bool) (new more : List OrderRow) → b ≡ false → more ≡ (if b then new else more)
-kept_more b new more e = sym (ap (λ (t : Bool). if t then new else more) e)
-
-one_more : (orders new rest : List OrderRow) (row : OrderRow) → new ++ new_orders (orders ++ new) (row ∷ rest) ≡ grown orders new row ++ new_orders (orders ++ grown orders new row) rest
-unfolding new_orders
-one_more orders new rest row =
-    elim (is_ordered (orders ++ new) row.batch) as (λ b. new ++ (if b then new_orders (orders ++ new) rest else row ∷ new_orders ((orders ++ new) ++ row ∷ []) rest) ≡ (if b then new else new ++ row ∷ []) ++ new_orders (orders ++ (if b then new else new ++ row ∷ [])) rest) [
-      | true ↦ refl
-      | false ↦ sym (append_assoc new (row ∷ []) (new_orders (orders ++ (new ++ row ∷ [])) rest) ∙ ap (λ (os : List OrderRow). new ++ row ∷ new_orders os rest) (sym (append_assoc orders new (row ∷ []))))
-    ]
-
-pub none_yet : (orders rows : List OrderRow) → new_orders orders rows ≡ new_orders (orders ++ []) rows
-none_yet orders rows = ap (λ (os : List OrderRow). new_orders os rows) (sym (append-nil orders))
-
-pub next_row : (orders rows new later : List OrderRow) (i : ℕ) (row : OrderRow) → i < length rows → row ≡ get_or rows i row → later ≡ grown orders new row → new_orders orders rows ≡ new ++ new_orders (orders ++ new) (drop i rows)
-    → new_orders orders rows ≡ later ++ new_orders (orders ++ later) (drop (i + 1) rows)
-next_row orders rows new later i row within is next so =
-    so ∙ ap (λ (rs : List OrderRow). new ++ new_orders (orders ++ new) rs) (drop-cons rows i row within ∙ ap (λ (r : OrderRow). r ∷ drop (suc i) rows) (sym is))
-    ∙ one_more orders new (drop (suc i) rows) row
-    ∙ ap (λ (os : List OrderRow). os ++ new_orders (orders ++ os) (drop (suc i) rows)) (sym next)
-    ∙ ap (λ (k : ℕ). later ++ new_orders (orders ++ later) (drop k rows)) (sym (add-one i))
-
-pub no_more : (orders rows new : List OrderRow) (i : ℕ) → length rows ≤ i → new_orders orders rows ≡ new ++ new_orders (orders ++ new) (drop i rows) → new ≡ new_orders orders rows
-unfolding new_orders
-no_more orders rows new i past so = sym (so ∙ ap (λ (rs : List OrderRow). new ++ new_orders (orders ++ new) rs) (drop_of_length-le rows past) ∙ append-nil new)
+pub kept_new : (is_new : Bool) (new : List OrderRow) (row : OrderRow) → is_new ≡ true → new ++ row ∷ [] ≡ new ++ kept is_new row
+kept_new is_new new row e = sym (ap (λ (b : Bool). new ++ kept b row) e)
 
 pub few_new : (orders rows : List OrderRow) → length (new_orders orders rows) ≤ length rows
 unfolding new_orders

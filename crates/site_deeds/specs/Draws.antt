@@ -1,7 +1,7 @@
 -- What the site draws from random words.
-use Rattle.std.specs.Prelude.{◌≡◌, ℕ, List, [], map, Option, Some, None}
+use Rattle.std.specs.Prelude.{◌≡◌, ◌≤◌, ℕ, List, [], length, map, Option, Some, None}
 use Rattle.std.specs.Option.{option_map_or}
-use Rattle.serial_pool.specs.Drawing.{IsDraw, IsSpent, IsUnfinished}
+use Rattle.serial_pool.specs.Drawing.{IsDraw, IsSpent, IsUnfinished, word_limit}
 use Rattle.serial_pool.specs.declared.drawn.DrawnSerial.{DrawnSerial}
 use Rattle.serial_pool.specs.Held.{PoolView, PlanView, IsPlanFor, HasRoomFor, drawn_for}
 use Rattle.gs1_keys.specs.declared.form.SerialForm.{SerialForm}
@@ -34,6 +34,11 @@ Spends site w rule deed taken found = ⊥
 unfoldable pub Stops : Setup → World → Option Rule → Deed → List ℕ → Type 0
 Stops site w None (Draw name count) taken = IsUnfinished (serials_of w (gtin_of w name)) (form_for site (gtin_of w name)) count taken
 Stops site w rule deed taken = ⊥
+
+-- a draw that breaks no rule may take so many words, and any other deed none
+unfoldable pub MayTake : Option Rule → Deed → List ℕ → Type 0
+MayTake None (Draw name count) taken = length taken ≤ word_limit count
+MayTake rule deed taken = taken ≡ []
 
 -- ---- the pool beside the world
 

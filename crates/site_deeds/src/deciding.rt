@@ -1,9 +1,8 @@
 //! What comes of a deed.
-ghost use Rattle.std.specs.Prelude.{◌≡◌, ◌≤◌, [], None, Some, true, false, IfOk, IfErr, map};
+ghost use Rattle.std.specs.Prelude.{◌≡◌, ◌≤◌, [], None, Some, true, false, IfOk, IfErr};
 ghost use Rattle.outside.specs.Causes.{HasCauseIf};
 ghost use Rattle.outside.specs.Devices.{Takes};
 ghost use Rattle.gs1_keys.specs.Forms.{is_among};
-ghost use Rattle.deed_words.specs.Deeds.{named};
 ghost use Rattle.deed_words.specs.Effects.{gtin_of};
 ghost use Rattle.deed_words.specs.History.{AreNewFor, MayDraw};
 ghost use Rattle.deed_words.specs.Proper.{IsProperDeed};
@@ -13,10 +12,10 @@ ghost use Rattle.deed_words.specs.declared.deed.Deed.TheVariants.{Draw};
 ghost use Rattle.deed_words.specs.declared.reply.Reply.TheVariants.{Accepted, Refused};
 ghost use Rattle.serial_pool.specs.Held.{IsPlanFor};
 ghost use Rattle.batch_book.specs.Content.{world_in};
+ghost use Rattle.site_rules.specs.Asked.{IsFound};
 ghost use Rattle.site_rules.specs.Suits.{is_draw};
 ghost use Rattle.site_stores.specs.Changes.{room_for};
 ghost use Rattle.site_stores.specs.Holding.{IsWithin};
-ghost use Rattle.site_stores.specs.Places.{place_of};
 ghost use Rattle.site_stores.specs.declared.change.Change.TheVariants.{Nothing};
 ghost use Rattle.site_deeds.specs.Decisions.{Decides, IsDecided};
 ghost use Rattle.site_deeds.specs.DrawEnds.{is_words_fault};
@@ -32,8 +31,8 @@ use crate::judging::{Judged, judge};
 use deed_words::{Deed, Reply, Rule, Setup, StationId};
 use gs1_keys::{Memory, Serials, Text20};
 use outside::Words;
-use pack_tree::Node;
 use serial_pool::{DrawPlan, Pool};
+use site_rules::Found;
 use site_stores::{Change, Stores};
 use std::alloc::Global;
 
@@ -70,12 +69,12 @@ fn decide_other(
     stores: &mut Stores,
     station: StationId,
     deed: &Deed,
-    places: &[Option<Node>],
+    found: &Found,
 ) -> Result<Decided, Memory>
     requires proper { IsProperDeed deed.now }
     requires sound { IsSound setup.now (world_in stores.old.content) }
     requires allowed { broken setup.now (world_in stores.old.content) station deed.now ≡ None }
-    requires places { places.now ≡ map (place_of stores.old.content.rows stores.old.content.units) (named (world_in stores.old.content) deed.now) }
+    requires found { IsFound stores.old.content deed.now found.now }
     requires other { is_draw deed.now ≡ false }
     ensures decided { IfOk result (λ decided. IsDecided setup.now stores.old.content station deed.now [] decided) }
     ensures draw { IfOk result (λ decided. decided.draw ≡ None) }
@@ -83,7 +82,7 @@ fn decide_other(
     ensures kept { IsWithin stores.old.room stores.new.room }
     ensures room { IfOk result (λ decided. IsWithin (room_for decided.change) stores.new.room) }
 {
-    let done = do_deed(alloc, setup, stores, station, deed, places)?;
+    let done = do_deed(alloc, setup, stores, station, deed, found)?;
     Ok(accepted(done, None))
 }
 
@@ -175,15 +174,15 @@ pub fn decide<W: Words>(
     ensures still { (gtin : _) → is_among pool.old.gtins gtin ≡ true → is_among pool.new.gtins gtin ≡ true }
 {
     stores.tell_whole();
-    let places = match judge(alloc, setup, stores, pool, station, deed) {
-        Ok(Judged::Allowed(places)) => places,
+    let found = match judge(alloc, setup, stores, pool, station, deed) {
+        Ok(Judged::Allowed(found)) => found,
         Ok(Judged::Breaks(rule)) => return Ok(refused(rule)),
         Err(_) => return Err(PlanFault::Memory),
     };
     if let Deed::Draw(name, count) = deed {
         return decide_draw(setup, stores, pool, station, name, *count, words);
     }
-    match decide_other(alloc, setup, stores, station, deed, places.as_slice()) {
+    match decide_other(alloc, setup, stores, station, deed, &found) {
         Ok(decided) => Ok(decided),
         Err(_) => Err(PlanFault::Memory),
     }
@@ -251,8 +250,8 @@ pub fn decide_known(
     ensures still { (gtin : _) → is_among pool.old.gtins gtin ≡ true → is_among pool.new.gtins gtin ≡ true }
 {
     stores.tell_whole();
-    let places = match judge(alloc, setup, stores, pool, station, deed) {
-        Ok(Judged::Allowed(places)) => places,
+    let found = match judge(alloc, setup, stores, pool, station, deed) {
+        Ok(Judged::Allowed(found)) => found,
         Ok(Judged::Breaks(rule)) => {
             if !drawn.is_empty() {
                 return Err(KnownFault::NotDrawn);
@@ -267,7 +266,7 @@ pub fn decide_known(
     if !drawn.is_empty() {
         return Err(KnownFault::NotDrawn);
     }
-    match decide_other(alloc, setup, stores, station, deed, places.as_slice()) {
+    match decide_other(alloc, setup, stores, station, deed, &found) {
         Ok(decided) => Ok(decided),
         Err(_) => Err(KnownFault::Memory),
     }

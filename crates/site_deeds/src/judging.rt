@@ -7,9 +7,8 @@ ghost use Rattle.site_deeds.specs.Draws.{drawn_in};
 
 use deed_words::{Deed, Rule, Setup, StationId};
 use gs1_keys::Memory;
-use pack_tree::Node;
 use serial_pool::Pool;
-use site_rules::{ask, broken, make_names};
+use site_rules::{Found, ask, broken, make_names};
 use site_stores::Stores;
 use std::alloc::Global;
 
@@ -18,8 +17,8 @@ use std::alloc::Global;
 pub(crate) enum Judged {
     /// It breaks this rule.
     Breaks(Rule),
-    /// It breaks none, and the things that it names are at these places.
-    Allowed(Vec<Option<Node>>),
+    /// It breaks none, and this was found of its names.
+    Allowed(Found),
 }
 
 /// How many serials are drawn of the GTIN of a draw's batch; 0 for any other deed.
@@ -51,6 +50,6 @@ pub(crate) fn judge(
     let asked = ask(alloc, setup, stores, station, deed, &made, drawn)?;
     match broken(&asked) {
         Some(rule) => Ok(Judged::Breaks(rule)),
-        None => Ok(Judged::Allowed(asked.places)),
+        None => Ok(Judged::Allowed(asked.found)),
     }
 }

@@ -98,7 +98,7 @@ pub(crate) fn empty(alloc: Global, stores: &mut Stores, sscc: &Sscc) -> Result<D
         unreachable!()
     };
     let gone = stores.try_empty(alloc, unit)?;
-    let count = stores.count_inside(sscc);
+    let count = gone.as_slice().len() as u64;
     if count > u64::from(u32::MAX) {
         return Err(Memory);
     }

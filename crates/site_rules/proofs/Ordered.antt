@@ -1,5 +1,5 @@
 -- Orders that are there, and orders in a deed.
-use Rattle.std.proofs.Common.{◌≡◌, ℕ, suc, ◌+◌, ◌<◌, Bool, true, false, not, cond, ◌||◌, List, [], ◌∷◌, ◌++◌, length, take, drop, get_or, Option, None, Some, refl, sym, ap, ◌∙◌, arith, drop-cons, drop_of_length-le, add-one, ◌≤◌}
+use Rattle.std.proofs.Common.{◌≡◌, ℕ, suc, ◌+◌, ◌<◌, Bool, true, false, not, cond, ◌||◌, List, [], ◌∷◌, ◌++◌, length, take, drop, get_or, Option, None, Some, refl, sym, ap, ◌∙◌, arith, drop-cons, drop_of_length-le, add-one, ◌≤◌, append_assoc, append-nil}
 use Rattle.std.specs.Prelude.{find, option_map}
 use Rattle.std.specs.List.{list_any}
 use Rattle.std.specs.Option.{option_or}
@@ -11,7 +11,7 @@ use Rattle.deed_words.specs.World.{World, batch_of}
 use Rattle.deed_words.specs.Orders.{orders_in, is_ordered, conflicts, new_orders}
 use Rattle.deed_words.specs.declared.deed.OrderRow.{OrderRow}
 use Rattle.deed_words.specs.declared.world.Batch.{Batch}
-use Rattle.site_rules.specs.Rows.{adds}
+use Rattle.site_rules.specs.Rows.{kept, adds}
 use Rattle.deed_words.proofs.Sameness.{same-true}
 use Rattle.deed_words.proofs.Items.{find-more}
 use Rattle.deed_words.proofs.OrdersAgain.{find-order, any-found}
@@ -103,33 +103,61 @@ grown_more : (orders rows : List OrderRow) (row : OrderRow) → grown orders (ro
 grown_more orders [] row = refl
 grown_more orders (x ∷ rows) row = grown_more (next orders x) rows row
 
-new_next : (orders : List OrderRow) (row : OrderRow) (rows : List OrderRow) → length (new_orders orders (row ∷ rows)) ≡ adds (is_ordered orders row.batch) + length (new_orders (next orders row) rows)
+new_next : (orders : List OrderRow) (row : OrderRow) (rows : List OrderRow) → new_orders orders (row ∷ rows) ≡ kept (not (is_ordered orders row.batch)) row ++ new_orders (next orders row) rows
 unfolding new_orders
 new_next orders row rows =
-    elim (is_ordered orders row.batch) as (λ b. length (cond b (new_orders orders rows) (row ∷ new_orders (orders ++ row ∷ []) rows)) ≡ adds b + length (new_orders (cond b orders (orders ++ row ∷ [])) rows)) [
-      | true ↦ omega arith
-      | false ↦ omega arith
+    elim (is_ordered orders row.batch) as (λ b. cond b (new_orders orders rows) (row ∷ new_orders (orders ++ row ∷ []) rows) ≡ kept (not b) row ++ new_orders (cond b orders (orders ++ row ∷ [])) rows) [
+      | true ↦ refl
+      | false ↦ refl
     ]
 
-one_step : (orders rows : List OrderRow) (k : ℕ) (x : OrderRow) → k < length rows → x ≡ get_or rows k x
-    → length (new_orders (grown orders (take k rows)) (drop k rows)) ≡ adds (is_ordered orders x.batch || is_ordered (take k rows) x.batch) + length (new_orders (grown orders (take (k + 1) rows)) (drop (suc k) rows))
-one_step orders rows k x l e =
-    let front = grown orders (take k rows) in
-    ap (λ (ys : List OrderRow). length (new_orders front ys)) (drop-cons rows k x l ∙ ap (λ (y : OrderRow). y ∷ drop (suc k) rows) (sym e))
+-- the orders with those of the first k rows that are new
+abbrev pub grown_by : List OrderRow → List OrderRow → ℕ → List OrderRow
+grown_by orders rows k = grown orders (take k rows)
+
+-- the rows from the k-th on that are new
+abbrev pub new_from : List OrderRow → List OrderRow → ℕ → List OrderRow
+new_from orders rows k = new_orders (grown_by orders rows k) (drop k rows)
+
+pub one_step : (orders rows : List OrderRow) (k : ℕ) (x : OrderRow) (new : Bool) → k < length rows → x ≡ get_or rows k x → new ≡ not (is_ordered orders x.batch || is_ordered (take k rows) x.batch) → new_from orders rows k ≡ kept new x ++ new_from orders rows (k + 1)
+one_step orders rows k x new l e is =
+    let front = grown_by orders rows k in
+    let later = new_orders (next front x) (drop (suc k) rows) in
+    ap (λ (ys : List OrderRow). new_orders front ys) (drop-cons rows k x l ∙ ap (λ (y : OrderRow). y ∷ drop (suc k) rows) (sym e))
     ∙ new_next front x (drop (suc k) rows)
-    ∙ ap (λ b. adds b + length (new_orders (next front x) (drop (suc k) rows))) (grown_ordered orders (take k rows) x.batch)
-    ∙ ap (λ (os : List OrderRow). adds (is_ordered orders x.batch || is_ordered (take k rows) x.batch) + length (new_orders os (drop (suc k) rows)))
-    (sym (ap (grown orders) (take_more rows k x l ∙ ap (λ (y : OrderRow). take k rows ++ y ∷ []) (sym e)) ∙ grown_more orders (take k rows) x))
+    ∙ ap (λ b. kept b x ++ later) (ap not (grown_ordered orders (take k rows) x.batch) ∙ sym is)
+    ∙ ap (λ (os : List OrderRow). kept new x ++ new_orders os (drop (suc k) rows)) (sym (ap (grown orders) (take_more rows k x l ∙ ap (λ (y : OrderRow). take k rows ++ y ∷ []) (sym e)) ∙ grown_more orders (take k rows) x))
+    ∙ ap (λ (j : ℕ). kept new x ++ new_orders (grown_by orders rows (k + 1)) (drop j rows)) (sym (add-one k))
 
-pub counted : (orders rows : List OrderRow) (k count n a : ℕ) (x : OrderRow) → k < length rows → x ≡ get_or rows k x → a ≡ adds (is_ordered orders x.batch || is_ordered (take k rows) x.batch)
-    → count + length (new_orders (grown orders (take k rows)) (drop k rows)) ≡ n → count + a + length (new_orders (grown orders (take (k + 1) rows)) (drop (k + 1) rows)) ≡ n
-counted orders rows k count n a x l e f so =
-    let left = λ (j : ℕ). length (new_orders (grown orders (take (k + 1) rows)) (drop j rows)) in
-    let s : length (new_orders (grown orders (take k rows)) (drop k rows)) ≡ a + left (k + 1) = one_step orders rows k x l e ∙ ap (λ (m : ℕ). m + left (suc k)) (sym f) ∙ ap (λ (j : ℕ). a + left j) (sym (add-one k)) in
-    omega (arith, s, so)
-
-pub counted_all : (orders rows : List OrderRow) (k count n : ℕ) → length rows ≤ k → count + length (new_orders (grown orders (take k rows)) (drop k rows)) ≡ n → count ≡ n
+-- none is left past the end
+pub none_left : (orders rows : List OrderRow) (k : ℕ) → length rows ≤ k → new_from orders rows k ≡ []
 unfolding new_orders
-counted_all orders rows k count n h so =
-    let s : length (new_orders (grown orders (take k rows)) (drop k rows)) ≡ 0 = ap (λ (ys : List OrderRow). length (new_orders (grown orders (take k rows)) ys)) (drop_of_length-le rows h) in
+none_left orders rows k h = ap (λ (ys : List OrderRow). new_orders (grown_by orders rows k) ys) (drop_of_length-le rows h)
+
+-- ---- they are counted
+
+kept_counts : (new : Bool) (row : OrderRow) (rows : List OrderRow) → length (kept new row ++ rows) ≡ adds new + length rows
+kept_counts true row rows = omega arith
+kept_counts false row rows = omega arith
+
+pub counted : (orders rows : List OrderRow) (k count n a : ℕ) (x : OrderRow) (new : Bool) → k < length rows → x ≡ get_or rows k x → new ≡ not (is_ordered orders x.batch || is_ordered (take k rows) x.batch) → a ≡ adds new
+    → count + length (new_from orders rows k) ≡ n → count + a + length (new_from orders rows (k + 1)) ≡ n
+counted orders rows k count n a x new l e is f so =
+    let left = length (new_from orders rows (k + 1)) in
+    let s : length (new_from orders rows k) ≡ a + left = ap length (one_step orders rows k x new l e is) ∙ kept_counts new x (new_from orders rows (k + 1)) ∙ ap (λ (m : ℕ). m + left) (sym f) in
     omega (arith, s, so)
+
+pub counted_all : (orders rows : List OrderRow) (k count n : ℕ) → length rows ≤ k → count + length (new_from orders rows k) ≡ n → count ≡ n
+counted_all orders rows k count n h so =
+    let s : length (new_from orders rows k) ≡ 0 = ap length (none_left orders rows k h) in
+    omega (arith, s, so)
+
+-- ---- they are kept
+
+pub kept_more : (orders rows new later : List OrderRow) (k : ℕ) (x : OrderRow) (is_new : Bool) → k < length rows → x ≡ get_or rows k x → is_new ≡ not (is_ordered orders x.batch || is_ordered (take k rows) x.batch) → later ≡ new ++ kept is_new x
+    → new_orders orders rows ≡ new ++ new_from orders rows k → new_orders orders rows ≡ later ++ new_from orders rows (k + 1)
+kept_more orders rows new later k x is_new l e is grown so =
+    so ∙ ap (λ (ys : List OrderRow). new ++ ys) (one_step orders rows k x is_new l e is) ∙ sym (append_assoc new (kept is_new x) (new_from orders rows (k + 1))) ∙ ap (λ (ys : List OrderRow). ys ++ new_from orders rows (k + 1)) (sym grown)
+
+pub kept_all : (orders rows new : List OrderRow) (k : ℕ) → length rows ≤ k → new_orders orders rows ≡ new ++ new_from orders rows k → new ≡ new_orders orders rows
+kept_all orders rows new k h so = sym (so ∙ ap (λ (ys : List OrderRow). new ++ ys) (none_left orders rows k h) ∙ append-nil new)

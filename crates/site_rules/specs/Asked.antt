@@ -1,16 +1,17 @@
 -- What is worked out of a deed before its rules are tried.
 use Rattle.std.specs.Prelude.{◌≡◌, ℕ, true, List, map, length, Option, Some}
 use Rattle.epc_urn.specs.declared.epc.Epc.{Epc}
-use Rattle.deed_words.specs.Deeds.{named, batch_for}
+use Rattle.deed_words.specs.Deeds.{named, batch_for, order_rows}
 use Rattle.deed_words.specs.Tests.{rows_of_gtin}
 use Rattle.deed_words.specs.declared.deed.Deed.{Deed}
 use Rattle.deed_words.specs.declared.deed.Deed.TheVariants.{Sample, Reject, Reinstate, Destroy, Decommission, Pack, Unpack}
 use Rattle.deed_words.specs.declared.world.Batch.{Batch}
 use Rattle.name_marks.specs.Repeats.{first_repeat}
-use Rattle.pack_tree.specs.declared.node.Node.{Node}
 use Rattle.batch_book.specs.Content.{Content, world_in}
 use Rattle.site_stores.specs.Places.{place_of}
+use Rattle.site_rules.specs.Origins.{AreOrigins}
 use Rattle.site_rules.specs.Suits.{is_draw}
+use Rattle.site_rules.specs.declared.found.Found.{Found}
 
 -- the things that the deed names: those that it lists, or else those that were made of it
 unfoldable pub listed : Deed → List Epc → List Epc
@@ -23,10 +24,17 @@ listed (Pack unit children) made = children
 listed (Unpack unit children) made = children
 listed deed made = made
 
--- the names of the things that the deed names, their places, and the place of the first name that stands earlier too
-pub record IsAsked (c : Content) (deed : Deed) (names : List Epc) (places : List (Option Node)) (repeat : Option ℕ) : Type 0 where
+-- where the things are that the deed names, and where the batches of its order rows were first ordered
+pub record IsFound (c : Content) (deed : Deed) (found : Found) : Type 0 where
+  pub places_are : found.places.items ≡ map (place_of c.rows c.units) (named (world_in c) deed)
+  pub origins_are : AreOrigins c (order_rows deed) found.origins.items
+
+-- the names of the things that the deed names, what was found of them and of its order rows, and the place of the first
+-- name that stands earlier too
+pub record IsAsked (c : Content) (deed : Deed) (names : List Epc) (found : Found) (repeat : Option ℕ) : Type 0 where
   pub names_are : names ≡ named (world_in c) deed
-  pub places_are : places ≡ map (place_of c.rows c.units) names
+  pub places_are : found.places.items ≡ map (place_of c.rows c.units) names
+  pub origins_are : AreOrigins c (order_rows deed) found.origins.items
   pub repeat_is : repeat ≡ first_repeat names
 
 -- for a draw, so many serials of the batch's GTIN are drawn

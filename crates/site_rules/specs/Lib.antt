@@ -1,4 +1,5 @@
 pub mod Asked
+pub mod Origins
 pub mod Rows
 pub mod Rules
 pub mod Suits

@@ -1,5 +1,5 @@
 -- What the rules say of one order row, one code, and one row.
-use Rattle.std.specs.Prelude.{ℕ, true, false, ◌+◌, ◌++◌, ◌&&◌, Bool, not, List, Option, is_none}
+use Rattle.std.specs.Prelude.{ℕ, true, false, ◌+◌, ◌++◌, ◌&&◌, Bool, not, List, [], ◌∷◌, Option, is_none}
 use Rattle.gs1_element.specs.declared.code.Code.{Code}
 use Rattle.deed_words.specs.Names.{Text}
 use Rattle.deed_words.specs.Setups.{Setup, product_of}
@@ -33,7 +33,11 @@ unfoldable pub forbids : Deed → State → Bool
 forbids (Pack unit children) state = not (is_active state)
 forbids deed state = is_none (moved deed state)
 
--- how many batches a row adds: none where its batch is there
+-- the order rows that a row adds, and how many batches: itself where it is new, and else none
+abbrev pub kept : Bool → OrderRow → List OrderRow
+kept true row = row ∷ []
+kept false row = []
+
 abbrev pub adds : Bool → ℕ
-adds true = 0
-adds false = 1
+adds true = 1
+adds false = 0

@@ -7,6 +7,9 @@ ghost use Rattle.site_stores.specs.Places.{place_of};
 ghost use Rattle.site_rules.specs.Asked.{IsAsked, listed};
 
 use crate::asked::Asked;
+use crate::found::Found;
+use crate::orders::order_rows;
+use crate::origins::origins_of;
 use deed_words::{Deed, Epcs, Setup, StationId};
 use epc_urn::Epc;
 use gs1_element::Code;
@@ -110,7 +113,7 @@ fn places_of(alloc: Global, stores: &Stores, names: &[Epc]) -> Result<Vec<Option
 ///
 /// # Errors
 ///
-/// `Memory` where no memory was found, or the deed names 2^31 things or more.
+/// `Memory` where no memory was found, or the deed names 2^31 things or batches or more.
 pub fn ask<'a>(
     alloc: Global,
     setup: &'a Setup,
@@ -126,10 +129,11 @@ pub fn ask<'a>(
     ensures station { IfOk result (λ asked. asked.station ≡ station) }
     ensures deed { IfOk result (λ asked. asked.deed.now ≡ deed.now) }
     ensures drawn { IfOk result (λ asked. asked.drawn ≡ drawn) }
-    ensures asked { IfOk result (λ asked. IsAsked stores.now.content deed.now asked.names.now asked.places.items asked.repeat) }
+    ensures asked { IfOk result (λ asked. IsAsked stores.now.content deed.now asked.names.now asked.found asked.repeat) }
 {
     let names = listed(deed, made);
     let places = places_of(alloc, stores, names)?;
+    let origins = origins_of(alloc, stores, order_rows(deed))?;
     let repeat = first_repeat(alloc, names)?;
     Ok(Asked {
         setup,
@@ -137,7 +141,7 @@ pub fn ask<'a>(
         station,
         deed,
         names,
-        places,
+        found: Found { places, origins },
         repeat,
         drawn,
     })

@@ -11,7 +11,7 @@ ghost use Rattle.site_rules.specs.Suits.{is_draw, is_lend};
 
 use crate::asked::Asked;
 use crate::batches::batch_for;
-use crate::orders::{count_new, order_rows};
+use crate::orders::count_new;
 use deed_words::{Deed, OrderRow, Rule, Setup, What, reference_end};
 use epc_urn::Epc;
 use gs1_keys::Gtin;
@@ -75,7 +75,7 @@ fn list_range(is_empty: bool) -> Option<Rule>
 /// A list is empty, or a count is 0 or too great.
 #[tactic(auto, unfolding(deed_words::specs::Tests::out_of_range))]
 pub(crate) fn out_of_range(asked: &Asked) -> Option<Rule>
-    requires asked { IsAsked asked.now.stores.now.content asked.now.deed.now asked.now.names.now asked.now.places.items asked.now.repeat }
+    requires asked { IsAsked asked.now.stores.now.content asked.now.deed.now asked.now.names.now asked.now.found asked.now.repeat }
     ensures { result ≡ out_of_range asked.now.setup.now (world_in asked.now.stores.now.content) asked.now.station asked.now.deed.now }
 {
     match asked.deed {
@@ -101,6 +101,7 @@ fn full(what: What, have: u64, more: u64, most: u64) -> Option<Rule>
 /// The site has no room for what the deed adds.
 #[tactic(auto, unfolding(deed_words::specs::Tests::site_full))]
 pub(crate) fn site_full(asked: &Asked) -> Option<Rule>
+    requires asked { IsAsked asked.now.stores.now.content asked.now.deed.now asked.now.names.now asked.now.found asked.now.repeat }
     ensures { result ≡ site_full asked.now.setup.now (world_in asked.now.stores.now.content) asked.now.station asked.now.deed.now }
 {
     match asked.deed {
@@ -114,7 +115,7 @@ pub(crate) fn site_full(asked: &Asked) -> Option<Rule>
         }
         _ => {
             let have = asked.stores.batch_count() as u64;
-            let more = count_new(asked.stores, order_rows(asked.deed));
+            let more = count_new(asked);
             full(What::Batches, have, more, MOST_BATCHES)
         }
     }

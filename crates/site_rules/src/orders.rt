@@ -1,16 +1,18 @@
 //! The rules on order rows.
-ghost use Rattle.std.specs.Prelude.{◌≡◌, ◌≤◌, ◌++◌, ◌<◌, ◌^◌, ◌||◌, length, find};
+ghost use Rattle.std.specs.Prelude.{◌≡◌, ◌≤◌, ◌++◌, ◌<◌, ◌^◌, length, get_or, Some};
 ghost use Rattle.deed_words.specs.Names.{same, same_order};
 ghost use Rattle.deed_words.specs.Chain.{each};
 ghost use Rattle.deed_words.specs.Deeds.{order_rows};
-ghost use Rattle.deed_words.specs.Orders.{orders_in, is_ordered, conflicts, new_orders};
+ghost use Rattle.deed_words.specs.Orders.{orders_in, conflicts, new_orders};
 ghost use Rattle.deed_words.specs.Tests.{unknown_product, order_conflict};
 ghost use Rattle.batch_book.specs.Content.{world_in};
+ghost use Rattle.site_rules.specs.Asked.{IsAsked};
+ghost use Rattle.site_rules.specs.Origins.{origin_of, AreOrigins, is_row};
 ghost use Rattle.site_rules.specs.Rows.{unmade, conflicting, adds};
 
 use crate::asked::Asked;
-use deed_words::{Deed, OrderRow, Rule, Setup, same_gtin, same_text};
-use gs1_keys::Text20;
+use crate::origins::Origin;
+use deed_words::{BatchId, Deed, OrderRow, Rule, Setup, same_gtin, same_text};
 use site_stores::Stores;
 use std::slice::from_ref;
 
@@ -92,47 +94,54 @@ fn same_order(one: &OrderRow, other: &OrderRow) -> bool
     one.pallet_size == other.pallet_size
 }
 
-/// The first of the rows whose batch is of the name.
-fn row_of(rows: &[OrderRow], name: &Text20) -> Option<OrderRow>
-    ensures { result ≡ find (λ order. same order.batch name.now) rows.now }
+/// The row at a place.
+fn order_at(rows: &[OrderRow], place: usize) -> &OrderRow
+    requires { place < length rows.now }
+    ensures { result.now ≡ get_or rows.now place result.now }
 {
-    rows.iter()
-        .copied()
-        .find(|order| same_text(&order.batch, name))
+    &rows[place]
 }
 
-/// Whether the row differs from the first of its batch.
-#[tactic(auto, using(crate::proofs::Ordered::against_batch, crate::proofs::Ordered::against_row, crate::proofs::Ordered::against_none))]
-fn conflicts(stores: &Stores, rows: &[OrderRow], row: &OrderRow) -> bool
+/// Whether the row, whose origin is known, differs from the first of its batch.
+fn conflicts(stores: &Stores, rows: &[OrderRow], row: &OrderRow, origin: Origin) -> bool
+    requires origin { Some origin ≡ origin_of stores.now.content rows.now row.now.batch }
     ensures { result ≡ conflicts (orders_in (world_in stores.now.content) ++ rows.now) row.now }
 {
-    if let Some(batch) = stores.batch(&row.batch) {
-        return !same_order(&batch.order, row);
-    }
-    match row_of(rows, &row.batch) {
-        Some(order) => !same_order(&order, row),
-        None => false,
+    match origin {
+        Origin::There(at) => {
+            let batch = stores.batch_at(BatchId(at));
+            !same_order(&batch.order, row)
+        }
+        Origin::Row(first) => !same_order(order_at(rows, first), row),
     }
 }
 
 /// The row at the index differs from the first of its batch.
 #[tactic(auto, unfolding(deed_words::specs::Chain::when))]
-fn conflicting(stores: &Stores, rows: &[OrderRow], index: usize, row: &OrderRow) -> Option<Rule>
-    requires { index < 2 ^ 63 }
+fn conflicting(
+    stores: &Stores,
+    rows: &[OrderRow],
+    index: usize,
+    row: &OrderRow,
+    origin: Origin,
+) -> Option<Rule>
+    requires index { index < 2 ^ 63 }
+    requires origin { Some origin ≡ origin_of stores.now.content rows.now row.now.batch }
     ensures { result ≡ conflicting (world_in stores.now.content) rows.now index row.now }
 {
-    if conflicts(stores, rows, row) {
+    if conflicts(stores, rows, row, origin) {
         return Some(Rule::OrderConflict(index as u64 + 1));
     }
     None
 }
 
 /// The first row that differs from the first of its batch.
-fn first_conflict(stores: &Stores, rows: &[OrderRow]) -> Option<Rule>
+fn first_conflict(stores: &Stores, rows: &[OrderRow], origins: &[Origin]) -> Option<Rule>
+    requires origins { AreOrigins stores.now.content rows.now origins.now }
     ensures { result ≡ each rows.now (conflicting (world_in stores.now.content) rows.now) }
 {
     for (index, row) in rows.iter().enumerate() {
-        if let Some(rule) = conflicting(stores, rows, index, row) {
+        if let Some(rule) = conflicting(stores, rows, index, row, origins[index]) {
             return Some(rule);
         }
     }
@@ -142,52 +151,33 @@ fn first_conflict(stores: &Stores, rows: &[OrderRow]) -> Option<Rule>
 /// The batch of a row was first ordered otherwise.
 #[tactic(auto, unfolding(deed_words::specs::Tests::order_conflict))]
 pub(crate) fn order_conflict(asked: &Asked) -> Option<Rule>
+    requires asked { IsAsked asked.now.stores.now.content asked.now.deed.now asked.now.names.now asked.now.found asked.now.repeat }
     ensures { result ≡ order_conflict asked.now.setup.now (world_in asked.now.stores.now.content) asked.now.station asked.now.deed.now }
 {
-    first_conflict(asked.stores, order_rows(asked.deed))
+    first_conflict(
+        asked.stores,
+        order_rows(asked.deed),
+        asked.found.origins.as_slice(),
+    )
 }
 
-/// Whether a batch of the name was ordered.
-#[tactic(auto, using(crate::proofs::Ordered::ordered_none, crate::proofs::Ordered::ordered_some))]
-fn is_ordered(stores: &Stores, name: &Text20) -> bool
-    ensures { result ≡ is_ordered (orders_in (world_in stores.now.content)) name.now }
-{
-    match stores.batch(name) {
-        Some(_) => true,
-        None => false,
-    }
-}
-
-/// Whether one of the rows orders a batch of the name.
-#[tactic(auto, unfolding(deed_words::specs::Orders::is_ordered))]
-fn is_in(rows: &[OrderRow], name: &Text20) -> bool
-    ensures { result ≡ is_ordered rows.now name.now }
-{
-    rows.iter().any(|order| same_text(&order.batch, name))
-}
-
-/// How many batches the row adds: none where its batch is there, or in an earlier row.
-fn added(stores: &Stores, earlier: &[OrderRow], row: &OrderRow) -> u64
-    ensures is { result ≡ adds (is_ordered (orders_in (world_in stores.now.content)) row.now.batch || is_ordered earlier.now row.now.batch) }
+/// How many batches the row at the index adds: one where it is the first of its batch, and else none.
+fn added(origin: Origin, index: usize) -> u64
+    ensures is { result ≡ adds (is_row index origin) }
     ensures few { result ≤ 1 }
 {
-    if is_ordered(stores, &row.batch) {
-        return 0;
-    }
-    if is_in(earlier, &row.batch) {
-        return 0;
-    }
-    1
+    if origin.is_row(index) { 1 } else { 0 }
 }
 
-/// How many of the rows order a batch that is neither there nor in an earlier row.
-pub(crate) fn count_new(stores: &Stores, rows: &[OrderRow]) -> u64
-    ensures is { result ≡ length (new_orders (orders_in (world_in stores.now.content)) rows.now) }
-    ensures few { result ≤ length rows.now }
+/// How many of the deed's rows order a batch that is neither there nor in an earlier row.
+pub(crate) fn count_new(asked: &Asked) -> u64
+    requires asked { IsAsked asked.now.stores.now.content asked.now.deed.now asked.now.names.now asked.now.found asked.now.repeat }
+    ensures is { result ≡ length (new_orders (orders_in (world_in asked.now.stores.now.content)) (order_rows asked.now.deed.now)) }
+    ensures few { result < 2 ^ 63 }
 {
     let mut count = 0;
-    for (index, row) in rows.iter().enumerate() {
-        count += added(stores, &rows[..index], row);
+    for (index, origin) in asked.found.origins.iter().enumerate() {
+        count += added(*origin, index);
     }
     count
 }

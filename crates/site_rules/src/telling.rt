@@ -27,7 +27,7 @@ use deed_words::Rule;
 /// What a test says of the deed.
 #[tactic(auto, unfolding(crate::specs::Suits::suits))]
 fn says(asked: &Asked, test: Test) -> Option<Rule>
-    requires asked { IsAsked asked.now.stores.now.content asked.now.deed.now asked.now.names.now asked.now.places.items asked.now.repeat }
+    requires asked { IsAsked asked.now.stores.now.content asked.now.deed.now asked.now.names.now asked.now.found asked.now.repeat }
     requires drawn { IsDrawnCount asked.now.stores.now.content asked.now.deed.now asked.now.drawn }
     requires suited { suits asked.now.deed.now test ≡ true }
     ensures { result ≡ test_of test asked.now.setup.now (world_in asked.now.stores.now.content) asked.now.station asked.now.deed.now }
@@ -66,7 +66,7 @@ fn says(asked: &Asked, test: Test) -> Option<Rule>
 
 /// What the first of these tests says that says something.
 fn first_rule(asked: &Asked, tests: &[Test]) -> Option<Rule>
-    requires asked { IsAsked asked.now.stores.now.content asked.now.deed.now asked.now.names.now asked.now.places.items asked.now.repeat }
+    requires asked { IsAsked asked.now.stores.now.content asked.now.deed.now asked.now.names.now asked.now.found asked.now.repeat }
     requires drawn { IsDrawnCount asked.now.stores.now.content asked.now.deed.now asked.now.drawn }
     requires suited { list_all (suits asked.now.deed.now) tests.now ≡ true }
     ensures { result ≡ each tests.now (told asked.now.setup.now (world_in asked.now.stores.now.content) asked.now.station asked.now.deed.now) }
@@ -82,7 +82,7 @@ fn first_rule(asked: &Asked, tests: &[Test]) -> Option<Rule>
 /// The rule that the deed breaks first, with what a refusal tells of it; `None` exactly where it breaks none. It takes
 /// no memory.
 pub fn broken(asked: &Asked) -> Option<Rule>
-    requires asked { IsAsked asked.now.stores.now.content asked.now.deed.now asked.now.names.now asked.now.places.items asked.now.repeat }
+    requires asked { IsAsked asked.now.stores.now.content asked.now.deed.now asked.now.names.now asked.now.found asked.now.repeat }
     requires drawn { IsDrawnCount asked.now.stores.now.content asked.now.deed.now asked.now.drawn }
     ensures { result ≡ broken asked.now.setup.now (world_in asked.now.stores.now.content) asked.now.station asked.now.deed.now }
 {

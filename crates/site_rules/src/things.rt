@@ -27,7 +27,7 @@ use site_stores::Stores;
 /// A thing is named twice.
 #[tactic(auto, unfolding(deed_words::specs::Tests::repeated))]
 pub(crate) fn repeated(asked: &Asked) -> Option<Rule>
-    requires asked { IsAsked asked.now.stores.now.content asked.now.deed.now asked.now.names.now asked.now.places.items asked.now.repeat }
+    requires asked { IsAsked asked.now.stores.now.content asked.now.deed.now asked.now.names.now asked.now.found asked.now.repeat }
     ensures { result ≡ repeated asked.now.setup.now (world_in asked.now.stores.now.content) asked.now.station asked.now.deed.now }
 {
     match asked.repeat {
@@ -39,46 +39,46 @@ pub(crate) fn repeated(asked: &Asked) -> Option<Rule>
 /// A thing isn't known.
 #[tactic(auto, unfolding(deed_words::specs::Tests::unknown_serial))]
 pub(crate) fn unknown_serial(asked: &Asked) -> Option<Rule>
-    requires asked { IsAsked asked.now.stores.now.content asked.now.deed.now asked.now.names.now asked.now.places.items asked.now.repeat }
+    requires asked { IsAsked asked.now.stores.now.content asked.now.deed.now asked.now.names.now asked.now.found asked.now.repeat }
     ensures { result ≡ unknown_serial asked.now.setup.now (world_in asked.now.stores.now.content) asked.now.station asked.now.deed.now }
 {
     let check = Known {
         stores: asked.stores,
         deed: asked.deed,
     };
-    first_of(&check, asked.names, asked.places.as_slice())
+    first_of(&check, asked.names, asked.found.places.as_slice())
 }
 
 /// A thing is in a state that doesn't allow the deed.
 #[tactic(auto, unfolding(deed_words::specs::Tests::wrong_state))]
 pub(crate) fn wrong_state(asked: &Asked) -> Option<Rule>
-    requires asked { IsAsked asked.now.stores.now.content asked.now.deed.now asked.now.names.now asked.now.places.items asked.now.repeat }
+    requires asked { IsAsked asked.now.stores.now.content asked.now.deed.now asked.now.names.now asked.now.found asked.now.repeat }
     ensures { result ≡ wrong_state asked.now.setup.now (world_in asked.now.stores.now.content) asked.now.station asked.now.deed.now }
 {
     let check = Standing {
         stores: asked.stores,
         deed: asked.deed,
     };
-    first_of(&check, asked.names, asked.places.as_slice())
+    first_of(&check, asked.names, asked.found.places.as_slice())
 }
 
 /// An item was lent to another line.
 #[tactic(auto, unfolding(deed_words::specs::Tests::lent_to_other))]
 pub(crate) fn lent_to_other(asked: &Asked) -> Option<Rule>
-    requires asked { IsAsked asked.now.stores.now.content asked.now.deed.now asked.now.names.now asked.now.places.items asked.now.repeat }
+    requires asked { IsAsked asked.now.stores.now.content asked.now.deed.now asked.now.names.now asked.now.found asked.now.repeat }
     ensures { result ≡ lent_to_other asked.now.setup.now (world_in asked.now.stores.now.content) asked.now.station asked.now.deed.now }
 {
     let check = Lent {
         stores: asked.stores,
         station: asked.station,
     };
-    first_of(&check, asked.names, asked.places.as_slice())
+    first_of(&check, asked.names, asked.found.places.as_slice())
 }
 
 /// A thing stands in a unit.
 #[tactic(auto, unfolding(deed_words::specs::Tests::has_parent))]
 pub(crate) fn has_parent(asked: &Asked) -> Option<Rule>
-    requires asked { IsAsked asked.now.stores.now.content asked.now.deed.now asked.now.names.now asked.now.places.items asked.now.repeat }
+    requires asked { IsAsked asked.now.stores.now.content asked.now.deed.now asked.now.names.now asked.now.found asked.now.repeat }
     ensures { result ≡ has_parent asked.now.setup.now (world_in asked.now.stores.now.content) asked.now.station asked.now.deed.now }
 {
     match asked.deed {
@@ -90,7 +90,7 @@ pub(crate) fn has_parent(asked: &Asked) -> Option<Rule>
             let check = Loose {
                 stores: asked.stores,
             };
-            first_of(&check, asked.names, asked.places.as_slice())
+            first_of(&check, asked.names, asked.found.places.as_slice())
         }
     }
 }
@@ -99,7 +99,7 @@ pub(crate) fn has_parent(asked: &Asked) -> Option<Rule>
 #[tactic(auto, unfolding(deed_words::specs::Tests::not_child))]
 pub(crate) fn not_child(asked: &Asked) -> Option<Rule>
     requires unit { names_unit asked.now.deed.now ≡ true }
-    requires asked { IsAsked asked.now.stores.now.content asked.now.deed.now asked.now.names.now asked.now.places.items asked.now.repeat }
+    requires asked { IsAsked asked.now.stores.now.content asked.now.deed.now asked.now.names.now asked.now.found asked.now.repeat }
     ensures { result ≡ not_child asked.now.setup.now (world_in asked.now.stores.now.content) asked.now.station asked.now.deed.now }
 {
     let Some(unit) = unit_named(asked.deed) else {
@@ -109,7 +109,7 @@ pub(crate) fn not_child(asked: &Asked) -> Option<Rule>
         stores: asked.stores,
         unit,
     };
-    first_of(&check, asked.names, asked.places.as_slice())
+    first_of(&check, asked.names, asked.found.places.as_slice())
 }
 
 /// Whether pallets are made of the batch of the name.
@@ -142,21 +142,21 @@ fn wrong_new(stores: &Stores, name: &Text20, level: Level) -> Option<Rule>
 /// A thing doesn't go into a unit of the level.
 #[tactic(auto, unfolding(deed_words::specs::Tests::misfits))]
 fn misfits(asked: &Asked, level: Level) -> Option<Rule>
-    requires asked { IsAsked asked.now.stores.now.content asked.now.deed.now asked.now.names.now asked.now.places.items asked.now.repeat }
+    requires asked { IsAsked asked.now.stores.now.content asked.now.deed.now asked.now.names.now asked.now.found asked.now.repeat }
     ensures { result ≡ misfits (world_in asked.now.stores.now.content) level asked.now.names.now }
 {
     let check = Fitting {
         stores: asked.stores,
         level,
     };
-    first_of(&check, asked.names, asked.places.as_slice())
+    first_of(&check, asked.names, asked.found.places.as_slice())
 }
 
 /// A thing doesn't go into the unit, or the batch has no such units.
 #[tactic(auto, unfolding(deed_words::specs::Tests::wrong_level))]
 pub(crate) fn wrong_level(asked: &Asked) -> Option<Rule>
     requires about { is_about_unit asked.now.deed.now ≡ true }
-    requires asked { IsAsked asked.now.stores.now.content asked.now.deed.now asked.now.names.now asked.now.places.items asked.now.repeat }
+    requires asked { IsAsked asked.now.stores.now.content asked.now.deed.now asked.now.names.now asked.now.found asked.now.repeat }
     ensures { result ≡ wrong_level asked.now.setup.now (world_in asked.now.stores.now.content) asked.now.station asked.now.deed.now }
 {
     match asked.deed {
@@ -226,7 +226,7 @@ fn first_stray(
 #[tactic(auto, unfolding(deed_words::specs::Tests::strays))]
 fn first_foreign(asked: &Asked) -> Option<Rule>
     requires about { is_about_batch asked.now.deed.now ≡ true }
-    requires asked { IsAsked asked.now.stores.now.content asked.now.deed.now asked.now.names.now asked.now.places.items asked.now.repeat }
+    requires asked { IsAsked asked.now.stores.now.content asked.now.deed.now asked.now.names.now asked.now.found asked.now.repeat }
     ensures { result ≡ strays (world_in asked.now.stores.now.content) (batch_named (world_in asked.now.stores.now.content) asked.now.deed.now) asked.now.names.now }
 {
     asked.stores.tell_whole();
@@ -240,14 +240,14 @@ fn first_foreign(asked: &Asked) -> Option<Rule>
         stores: asked.stores,
         batch,
     };
-    first_of(&check, asked.names, asked.places.as_slice())
+    first_of(&check, asked.names, asked.found.places.as_slice())
 }
 
 /// A thing is of another batch.
 #[tactic(auto, unfolding(deed_words::specs::Tests::other_batch, deed_words::specs::Tests::strays))]
 pub(crate) fn other_batch(asked: &Asked) -> Option<Rule>
     requires about { is_about_batch asked.now.deed.now ≡ true }
-    requires asked { IsAsked asked.now.stores.now.content asked.now.deed.now asked.now.names.now asked.now.places.items asked.now.repeat }
+    requires asked { IsAsked asked.now.stores.now.content asked.now.deed.now asked.now.names.now asked.now.found asked.now.repeat }
     ensures { result ≡ other_batch asked.now.setup.now (world_in asked.now.stores.now.content) asked.now.station asked.now.deed.now }
 {
     match asked.deed {
@@ -256,7 +256,7 @@ pub(crate) fn other_batch(asked: &Asked) -> Option<Rule>
                 asked.stores,
                 name,
                 codes.as_slice(),
-                asked.places.as_slice(),
+                asked.found.places.as_slice(),
             )
         }
         _ => first_foreign(asked),

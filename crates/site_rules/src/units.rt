@@ -101,7 +101,7 @@ fn over(stores: &Stores, sscc: &Sscc, more: u64, unit: &Container, batch: &Batch
 #[tactic(auto, unfolding(deed_words::specs::Tests::unit_full))]
 pub(crate) fn unit_full(asked: &Asked) -> Option<Rule>
     requires unit { names_unit asked.now.deed.now ≡ true }
-    requires asked { IsAsked asked.now.stores.now.content asked.now.deed.now asked.now.names.now asked.now.places.items asked.now.repeat }
+    requires asked { IsAsked asked.now.stores.now.content asked.now.deed.now asked.now.names.now asked.now.found asked.now.repeat }
     ensures { result ≡ unit_full asked.now.setup.now (world_in asked.now.stores.now.content) asked.now.station asked.now.deed.now }
 {
     let Some(unit) = unit_for(asked) else {

@@ -76,6 +76,7 @@ no_room view = record {
   stores = record { batches = omega arith; declarations = omega arith; rows = omega arith; units = omega arith };
   serials = omega arith;
   gtins = tt;
+  moves = record { any = omega arith; own = λ batch. omega arith };
 }
 
 -- ---- one of them is taken back

@@ -6,7 +6,7 @@ use Rattle.deed_words.specs.Setups.{Setup}
 use Rattle.deed_words.specs.declared.entry.Ask.{Ask}
 use Rattle.deed_words.specs.declared.entry.Entry.{Entry}
 use Rattle.deed_words.specs.declared.entry.FaultKind.{FaultKind}
-use Rattle.deed_words.specs.History.{own, last_stamp}
+use Rattle.deed_words.specs.History.{own, last_stamp, world_of}
 use Rattle.deed_words.specs.Numbers.{Means, New}
 use Rattle.site_core.specs.Plans.{entry_of}
 use Rattle.deed_words.specs.Proper.{IsProperEntry}
@@ -26,7 +26,8 @@ use Rattle.site_store.specs.Entries.{AreKept, AreProper, latest}
 use Rattle.site_store.specs.Moved.{Taken, nothing_taken}
 use Rattle.site_store.specs.Noting.{Noted, fault}
 use Rattle.site_store.specs.Standing.{entries_of, in_order, noted_in, journal_limit}
-use Rattle.site_store.specs.Steps.{Tries, Makes, stamp_at, faults_told}
+use Rattle.site_store.specs.Steps.{Tries, Makes, rule_at, stamp_at, faults_told}
+use Rattle.site_deeds.proofs.OfDecision.{draws_take}
 use Rattle.site_store.specs.Tried.{Tried, KeptOne, Keeps, IsKnown}
 use Rattle.site_store.specs.Causes.{is_clock_fault, is_words_fault}
 use Rattle.site_store.specs.Trying.{IsTrying}
@@ -49,7 +50,7 @@ pub known_tries : (site : Setup) (end : â„•) (h front : List Entry) (worker : â„
 known_tries site end h front worker ask (Replied reply) is = inl (record { means = is; nothing = refl }, refl)
 known_tries site end h front worker ask NumberReused is = (record { kept = is.0; finds = record { means = is.1; nothing = refl } }, refl)
 known_tries site end h front worker ask (NumberGap last) is = (record { means = is; nothing = refl }, refl)
-known_tries site end h front worker ask Memory is = (omega arith, refl)
+known_tries site end h front worker ask Memory is = (inl refl, refl)
 known_tries site end h front worker ask DiskFault is = absurd is
 known_tries site end h front worker ask ClockFault is = absurd is
 known_tries site end h front worker ask (ClockRange ms) is = absurd is
@@ -147,7 +148,8 @@ planned_tries site end h content front worker ask ms stamp words planned (Journa
   },
   is.3,
 )
-planned_tries site end h content front worker ask ms stamp words planned Memory new means in_range stamp_is plan is = (omega arith, is)
+planned_tries site end h content front worker ask ms stamp words planned Memory new means in_range stamp_is plan is =
+    (inr (ms, record { means = means; moment = refl; in_range = in_range }, draws_take site (world_of site h) (rule_at site h ask) ask.deed words plan.drawn plan.draws), is)
 planned_tries site end h content front worker ask ms stamp words planned DiskFault new means in_range stamp_is plan is = absurd is
 planned_tries site end h content front worker ask ms stamp words planned NumberReused new means in_range stamp_is plan is = absurd is
 planned_tries site end h content front worker ask ms stamp words planned (NumberGap last) new means in_range stamp_is plan is = absurd is

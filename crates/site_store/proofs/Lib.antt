@@ -18,6 +18,7 @@ pub mod Chaining
 pub mod Telling
 pub mod Blaming
 pub mod OneOf
+pub mod Calling
 pub mod Turning
 pub mod Making
 pub mod OneReading

@@ -105,7 +105,7 @@ wanting_notes worker place (ask ∷ asks) = wanting_notes worker (place + 0) ask
 
 wanting_tries : (site : Setup) (end : ℕ) (g front : List Entry) (worker : ℕ) (asks : List Ask) → AreTries site end g front worker (wanting asks)
 wanting_tries site end g front worker [] = tt
-wanting_tries site end g front worker (ask ∷ asks) = ((omega arith, refl), wanting_tries site end (g ++ []) (front ++ []) worker asks)
+wanting_tries site end g front worker (ask ∷ asks) = ((inl refl, refl), wanting_tries site end (g ++ []) (front ++ []) worker asks)
 
 pub all_wanting : (site : Setup) (end : ℕ) (g : List Entry) (worker : ℕ) (asks : List Ask) (outcomes : List Outcome) (state : State) → outcomes ≡ map (λ (ask : Ask). Memory) asks → state ≡ settled g → Answers site end g worker asks nothing_taken outcomes state []
 all_wanting site end g worker asks outcomes state outcomes_are state_is = record {

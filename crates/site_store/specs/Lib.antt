@@ -7,6 +7,7 @@ pub mod Readings
 pub mod Images
 pub mod Noting
 pub mod Causes
+pub mod Calls
 pub mod Standing
 pub mod Loads
 pub mod Steps

@@ -16,7 +16,7 @@ use Rattle.site_store.specs.Standing.{journal_limit}
 use Rattle.site_store.specs.States.{State, all_of, settled}
 use Rattle.site_store.specs.Noting.{Noted, dones, fault}
 use Rattle.site_store.specs.Moved.{Taken, nothing_taken}
-use Rattle.site_store.specs.Steps.{Finds, FindsOther, PassesRange, LacksWords, SpendsWords, Makes, FindsFull}
+use Rattle.site_store.specs.Steps.{Finds, FindsOther, WantsMemory, PassesRange, LacksWords, SpendsWords, Makes, FindsFull}
 
 -- the entry fits
 pub record Fits (site : Setup) (end : ℕ) (g : List Entry) (worker : ℕ) (ask : Ask) (taken : Taken) (entry : Entry) : Type 0 where
@@ -58,7 +58,7 @@ Answers site end g worker ask taken WordsFault new more = LacksWords site g ask 
 Answers site end g worker ask taken (WordsSpent found) new more = SpendsWords site g ask taken found × Stays g (fault kind.Spent worker []) new more
 Answers site end g worker ask taken (JournalFull told asked) new more = FindsFull site end g [] worker ask taken told asked × Stays g [] new more
 Answers site end g worker ask taken DiskFault new more = Fails site end g worker ask taken new more
-Answers site end g worker ask taken Memory new more = (length taken.moments ≤ 1) × Stays g [] new more
+Answers site end g worker ask taken Memory new more = WantsMemory site g ask taken × Stays g [] new more
 
 -- ---- with something pending
 

@@ -13,7 +13,7 @@ use Rattle.deed_words.specs.Rules.{broken}
 use Rattle.deed_words.specs.Replies.{reply_to}
 use Rattle.deed_words.specs.History.{world_of, last_stamp, MayFollow}
 use Rattle.deed_words.specs.Numbers.{Means, Meaning, Kept, Reused, New, Gap}
-use Rattle.site_deeds.specs.Draws.{Draws, Spends, Stops}
+use Rattle.site_deeds.specs.Draws.{Draws, Spends, Stops, MayTake}
 use Rattle.site_core.specs.Plans.{entry_of}
 use Rattle.site_store.specs.declared.outcome.Outcome.{Outcome}
 use Rattle.site_store.specs.declared.outcome.Outcome.TheVariants.{Replied, NumberReused, NumberGap, DiskFault, ClockFault, ClockRange, WordsFault, WordsSpent, JournalFull, Memory}
@@ -77,6 +77,11 @@ pub record Makes (site : Setup) (g : List Entry) (worker : ℕ) (ask : Ask) (tak
   pub draws : Draws site (world_of site g) (rule_at site g ask) ask.deed taken.words drawn
   pub follows : MayFollow site g (world_of site g) entry
 
+-- want of memory: no device was asked, or the number is the station's next one, the clock gave one moment, in range, and
+-- no more words were taken than the deed may take
+abbrev pub WantsMemory : Setup → List Entry → Ask → Taken → Type 0
+WantsMemory site g ask taken = (taken ≡ nothing_taken) ⊎ ((ms : ℕ) × Comes site g ask taken ms × MayTake (rule_at site g ask) ask.deed taken.words)
+
 -- behind this end of the journal the entry doesn't fit into one payload with those in front of it
 pub record FindsFull (site : Setup) (end : ℕ) (g front : List Entry) (worker : ℕ) (ask : Ask) (taken : Taken) (told asked : ℕ) : Type 0 where
   pub entry : Entry
@@ -106,7 +111,7 @@ Tries site end g front worker ask taken WordsFault new = LacksWords site g ask t
 Tries site end g front worker ask taken (WordsSpent found) new = SpendsWords site g ask taken found × (new ≡ [])
 Tries site end g front worker ask taken (JournalFull told asked) new = FindsFull site end g front worker ask taken told asked × (new ≡ [])
 Tries site end g front worker ask taken DiskFault new = ⊥
-Tries site end g front worker ask taken Memory new = (length taken.moments ≤ 1) × (new ≡ [])
+Tries site end g front worker ask taken Memory new = WantsMemory site g ask taken × (new ≡ [])
 
 -- ---- the requests of a group
 

@@ -2,6 +2,7 @@
 ghost use Rattle.std.specs.Prelude.{◌≡◌, ◌++◌, ◌-◌, [], List, IsSome, length, true, false, vec_len, vec_capacity};
 ghost use Rattle.outside.specs.Causes.{HasCauseIf};
 ghost use Rattle.outside.specs.Disks.{LeavesOnly};
+ghost use Rattle.site_store.specs.Calls.{AppendCalls};
 ghost use Rattle.site_store.specs.Images.{HoldsBetween};
 ghost use Rattle.site_store.specs.Noting.{Noted};
 ghost use Rattle.site_store.specs.Open.{IsSoundStore, IsTryingStore, store_state};
@@ -45,6 +46,7 @@ impl<D: Disk, C: Clock, W: Words> Store<D, C, W> {
         ensures sound { IsSoundStore self.new }
         ensures images { LeavesOnly D.moment D.image_since self.old.journal.disk self.new.journal.disk (HoldsBetween group.base.value.setup (state_of group.base.value []) (store_state self.new)) }
         ensures cause { HasCauseIf (is_lost result) (D.disk_faults self.old.journal.disk) (D.disk_faults self.new.journal.disk) }
+        ensures calls { AppendCalls group.base.value.history (is_lost result) (store_state self.new) (D.disk_calls self.old.journal.disk) (D.disk_calls self.new.journal.disk) }
         ensures told { IsSome (D.content self.old.journal.disk) → IsSome (D.content self.new.journal.disk) }
         ensures setup { self.new.site.setup ≡ group.base.value.setup }
         ensures devices { (self.new.clock ≡ self.old.clock) × (self.new.words ≡ self.old.words) }

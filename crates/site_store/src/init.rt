@@ -21,15 +21,24 @@ use site_core::Site;
 use std::alloc::Global;
 use std::snapshot::Snapshot;
 
+/// The bytes of a setup.
+fn bytes_of(alloc: Global, setup: &Setup) -> Option<Vec<u8>>
+    ensures spelled { IfSome result (λ bytes. SpellsSetup setup.now bytes.items) }
+    ensures short { IfSome result (λ bytes. length bytes.items ≤ 65535) }
+{
+    sizes_are_sums();
+    let mut bytes = Vec::new(alloc);
+    print_setup(alloc, setup, &mut bytes).ok()?;
+    Some(bytes)
+}
+
 /// The bytes of a setup and its site, in which nothing has happened.
 fn site_of(alloc: Global, setup: Setup) -> Option<(Vec<u8>, Site)>
     ensures spelled { IfSome result (λ made. SpellsSetup setup made.0.items) }
     ensures short { IfSome result (λ made. length made.0.items ≤ 65535) }
     ensures site { IfSome result (λ made. (made.1.setup ≡ setup) × (made.1.history ≡ [])) }
 {
-    sizes_are_sums();
-    let mut bytes = Vec::new(alloc);
-    print_setup(alloc, &setup, &mut bytes).ok()?;
+    let bytes = bytes_of(alloc, &setup)?;
     let site = Site::new(alloc, setup).ok()?;
     Some((bytes, site))
 }

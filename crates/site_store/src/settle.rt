@@ -1,7 +1,8 @@
 //! Settling what is pending.
 ghost use Rattle.std.specs.Prelude.{◌≡◌, ◌≢◌, ◌-◌, ◌++◌, [], List, IsSome, not, true, false, vec_len, vec_capacity};
 ghost use Rattle.outside.specs.Causes.{HasCauseIf};
-ghost use Rattle.outside.specs.Disks.{LeavesOnly};
+ghost use Rattle.outside.specs.Disks.{LeavesOnly, OneOrTwoCalls};
+ghost use Rattle.site_store.specs.Calls.{mended_calls};
 ghost use Rattle.site_store.specs.Images.{HoldsState};
 ghost use Rattle.site_store.specs.Mends.{Mends, is_settled};
 ghost use Rattle.site_store.specs.Noting.{Noted};
@@ -36,6 +37,8 @@ impl<D: Disk, C: Clock, W: Words> Store<D, C, W> {
         ensures end { end_of self.new.journal.end self.new.journal.pending ≡ end_of self.old.journal.end self.old.journal.pending }
         ensures images { LeavesOnly D.moment D.image_since self.old.journal.disk self.new.journal.disk (HoldsState self.old.site.setup (store_state self.old)) }
         ensures cause { HasCauseIf (not (is_settled result)) (D.disk_faults self.old.journal.disk) (D.disk_faults self.new.journal.disk) }
+        ensures calls { is_settled result ≡ true → D.disk_calls self.new.journal.disk ≡ mended_calls (store_state self.old).pending (D.disk_calls self.old.journal.disk) }
+        ensures calls_err { is_settled result ≡ false → OneOrTwoCalls (D.disk_calls self.old.journal.disk) (D.disk_calls self.new.journal.disk) }
         ensures told { IsSome (D.content self.old.journal.disk) → IsSome (D.content self.new.journal.disk) }
         ensures setup { self.new.site.setup ≡ self.old.site.setup }
         ensures devices { (self.new.clock ≡ self.old.clock) × (self.new.words ≡ self.old.words) }

@@ -3,6 +3,7 @@ ghost use Rattle.std.specs.Prelude.{◌≡◌, ◌≢◌, ◌⊎◌, ◌<◌, �
 ghost use Rattle.outside.specs.Causes.{HasCauseIf};
 ghost use Rattle.outside.specs.Disks.{LeavesOnly};
 ghost use Rattle.deed_words.specs.Proper.{IsProperAsk};
+ghost use Rattle.site_store.specs.Calls.{AppendCalls, StepCalls};
 ghost use Rattle.site_store.specs.Causes.{is_disk_fault, is_clock_fault, is_words_fault};
 ghost use Rattle.site_store.specs.Images.{HoldsBetween, HoldsState, SettledFrom, Grows};
 ghost use Rattle.site_store.specs.Moved.{TakesBoth};
@@ -42,6 +43,7 @@ impl<D: Disk, C: Clock, W: Words> Store<D, C, W> {
         ensures disk { HasCauseIf (is_disk_fault result (store_state self.new).pending) (D.disk_faults self.old.journal.disk) (D.disk_faults self.new.journal.disk) }
         ensures clock { HasCauseIf (is_clock_fault result) (C.clock_faults self.old.clock) (C.clock_faults self.new.clock) }
         ensures words { HasCauseIf (is_words_fault result) (W.word_faults self.old.words) (W.word_faults self.new.words) }
+        ensures calls { AppendCalls self.old.site.history (is_disk_fault result (store_state self.new).pending) (store_state self.new) (D.disk_calls self.old.journal.disk) (D.disk_calls self.new.journal.disk) }
         ensures told { IsSome (D.content self.old.journal.disk) → IsSome (D.content self.new.journal.disk) }
         ensures setup { self.new.site.setup ≡ self.old.site.setup }
         ensures opened { (self.new.opening ≡ self.old.opening) × (self.new.opened ≡ self.old.opened) }
@@ -76,6 +78,9 @@ impl<D: Disk, C: Clock, W: Words> Store<D, C, W> {
         ensures grows { Grows (store_state self.old) (store_state self.new) }
         ensures settling { (store_state self.old).pending ≢ [] → (store_state self.new ≡ store_state self.old)
             ⊎ SettledFrom D.moment D.image_since self.old.site.setup (store_state self.old) self.old.journal.disk self.new.journal.disk (store_state self.new) }
+
+        // Which call of the disk failed decides what is pending: the entry after the last two calls of its append, nothing after the first two.
+        ensures calls { StepCalls (store_state self.old) (is_disk_fault result (store_state self.new).pending) (store_state self.new) (D.disk_calls self.old.journal.disk) (D.disk_calls self.new.journal.disk) }
 
         // Each fault of a device has its cause, and any other answer none.
         ensures disk { HasCauseIf (is_disk_fault result (store_state self.new).pending) (D.disk_faults self.old.journal.disk) (D.disk_faults self.new.journal.disk) }

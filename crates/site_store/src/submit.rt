@@ -11,6 +11,7 @@ ghost use Rattle.site_store.specs.Moved.{TakesBoth};
 ghost use Rattle.site_store.specs.Noting.{Noted, IsOf};
 ghost use Rattle.site_store.specs.Standing.{end_of};
 ghost use Rattle.site_store.specs.Open.{IsOpen, IsSoundStore, store_state, notes_of};
+ghost use Rattle.site_store.specs.Calls.{AppendCalls, StepCalls};
 ghost use Rattle.site_store.specs.Causes.{tells_disk_fault, HasCauses};
 ghost use Rattle.site_store.specs.States.{State, settled};
 ghost use Rattle.site_store.specs.Steps.{Answers, Steps};
@@ -114,6 +115,7 @@ impl<D: Disk, C: Clock, W: Words> Store<D, C, W> {
         ensures answers { TakesBoth (C.moments_left self.old.clock) (C.moments_left self.new.clock) (W.words_left self.old.words) (W.words_left self.new.words) (λ taken. (more : List Noted) × (notes_of self.new ≡ notes_of self.old ++ more) × Answers self.old.site.setup self.old.journal.end self.old.site.history worker asks.items taken outcomes.new.items (store_state self.new) more) }
         ensures sound { IsSoundStore self.new }
         ensures images { LeavesOnly D.moment D.image_since self.old.journal.disk self.new.journal.disk (HoldsBetween self.old.site.setup (settled self.old.site.history) (store_state self.new)) }
+        ensures calls { AppendCalls self.old.site.history (tells_disk_fault outcomes.new.items (store_state self.new).pending) (store_state self.new) (D.disk_calls self.old.journal.disk) (D.disk_calls self.new.journal.disk) }
         ensures disk { HasCauseIf (tells_disk_fault outcomes.new.items (store_state self.new).pending) (D.disk_faults self.old.journal.disk) (D.disk_faults self.new.journal.disk) }
         ensures clock { HasCauses kind.Clock (notes_of self.old) (notes_of self.new) (C.clock_faults self.old.clock) (C.clock_faults self.new.clock) }
         ensures words { HasCauses kind.Words (notes_of self.old) (notes_of self.new) (W.word_faults self.old.words) (W.word_faults self.new.words) }
@@ -155,6 +157,7 @@ impl<D: Disk, C: Clock, W: Words> Store<D, C, W> {
         ensures grows { Grows (store_state self.old) (store_state self.new) }
         ensures settling { (store_state self.old).pending ≢ [] → (store_state self.new ≡ store_state self.old)
             ⊎ SettledFrom D.moment D.image_since self.old.site.setup (store_state self.old) self.old.journal.disk self.new.journal.disk (store_state self.new) }
+        ensures calls { StepCalls (store_state self.old) (tells_disk_fault outcomes.new.items (store_state self.new).pending) (store_state self.new) (D.disk_calls self.old.journal.disk) (D.disk_calls self.new.journal.disk) }
         ensures disk { HasCauseIf (tells_disk_fault outcomes.new.items (store_state self.new).pending) (D.disk_faults self.old.journal.disk) (D.disk_faults self.new.journal.disk) }
         ensures clock { HasCauses kind.Clock (notes_of self.old) (notes_of self.new) (C.clock_faults self.old.clock) (C.clock_faults self.new.clock) }
         ensures words { HasCauses kind.Words (notes_of self.old) (notes_of self.new) (W.word_faults self.old.words) (W.word_faults self.new.words) }

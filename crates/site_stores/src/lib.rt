@@ -9,6 +9,7 @@ mod changing;
 mod drawing;
 mod effects;
 mod laws;
+mod parts;
 mod planning;
 mod stores;
 mod told;

@@ -2,7 +2,7 @@ use Rattle.std.proofs.Common.{[], sym, ap, ◌∙◌}
 use Rattle.std.proofs.KnownBytes.{Consumes-nil}
 use Rattle.deed_words.specs.Rules.{broken}
 use Rattle.batch_book.specs.Content.{world_in}
-use Rattle.site_deeds.proofs.OfDecision.{refused_decides, other_decides, no_room_needed, no_draw, breaks, allows}
+use Rattle.site_deeds.proofs.OfDecision.{refused_decides, other_decides, none_taken, no_room_needed, no_draw, breaks, allows}
 use Rattle.site_deeds.proofs.deciding.decide.Goals as goal
 
 pub returns-in-Ok-Breaks-clause-decides : goal.returns-in-Ok-Breaks-clause-decides
@@ -13,19 +13,25 @@ returns-in-Ok-Breaks-clause-decides g c = (
 )
 
 pub decide_draw-requires-clause-allowed : goal.decide_draw-requires-clause-allowed
-decide_draw-requires-clause-allowed g c = ap (broken c.args.setup.now (world_in c.args.stores.now.content) c.args.station) (sym c.in-Draw.is) ∙ (allows c.args.setup.now c.args.stores.now.content c.args.station c.args.deed.now c.in-Ok-Allowed.field-0 c.in-Ok-Allowed.places c.in-Ok-Allowed.ensures c.in-Ok-Allowed.field-0-is).0
+decide_draw-requires-clause-allowed g c = ap (broken c.args.setup.now (world_in c.args.stores.now.content) c.args.station) (sym c.in-Draw.is) ∙ (allows c.args.setup.now c.args.stores.now.content c.args.station c.args.deed.now c.in-Ok-Allowed.field-0 c.in-Ok-Allowed.found c.in-Ok-Allowed.ensures c.in-Ok-Allowed.field-0-is).0
 
 pub decide_other-requires : goal.decide_other-requires
 decide_other-requires g c =
-    let j = (allows c.args.setup.now c.args.stores.now.content c.args.station c.args.deed.now c.in-Ok-Allowed.field-0 c.in-Ok-Allowed.places c.in-Ok-Allowed.ensures c.in-Ok-Allowed.field-0-is) in
-    record { proper = c.requires.proper; sound = c.requires.sound; allowed = j.0; places = c.as_slice.ensures.value ∙ j.1; other = no_draw c.args.deed.now c.in_default.not-Draw }
+    let j = (allows c.args.setup.now c.args.stores.now.content c.args.station c.args.deed.now c.in-Ok-Allowed.field-0 c.in-Ok-Allowed.found c.in-Ok-Allowed.ensures c.in-Ok-Allowed.field-0-is) in
+    record { proper = c.requires.proper; sound = c.requires.sound; allowed = j.0; found = j.1; other = no_draw c.args.deed.now c.in_default.not-Draw }
 
 pub returns-in-Ok-clause-decides : goal.returns-in-Ok-clause-decides
 returns-in-Ok-clause-decides g c = (
   [],
   Consumes-nil (g.W.Words.words_left c.args.words.now),
-  other_decides c.args.setup.now c.args.stores.now.content c.args.station c.args.deed.now c.in-Ok.decided (no_draw c.args.deed.now c.in_default.not-Draw) (allows c.args.setup.now c.args.stores.now.content c.args.station c.args.deed.now c.in-Ok-Allowed.field-0 c.in-Ok-Allowed.places c.in-Ok-Allowed.ensures c.in-Ok-Allowed.field-0-is).0 c.in-Ok.ensures.decided,
+  other_decides c.args.setup.now c.args.stores.now.content c.args.station c.args.deed.now c.in-Ok.decided (no_draw c.args.deed.now c.in_default.not-Draw) (allows c.args.setup.now c.args.stores.now.content c.args.station c.args.deed.now c.in-Ok-Allowed.field-0 c.in-Ok-Allowed.found c.in-Ok-Allowed.ensures c.in-Ok-Allowed.field-0-is).0 c.in-Ok.ensures.decided,
 )
 
 pub returns-in-Ok-clause-draw_room : goal.returns-in-Ok-clause-draw_room
 returns-in-Ok-clause-draw_room g c = no_room_needed c.in-Ok.decided.draw c.args.pool.now c.in-Ok.ensures.draw
+
+pub returns-in-Err-clause-decides : goal.returns-in-Err-clause-decides
+returns-in-Err-clause-decides g c = ([], Consumes-nil (g.W.Words.words_left c.args.words.now), none_taken _ _)
+
+pub returns-clause-decides : goal.returns-clause-decides
+returns-clause-decides g c = ([], Consumes-nil (g.W.Words.words_left c.args.words.now), none_taken _ _)

@@ -15,12 +15,12 @@ returns-in-Ok-Breaks-clause-known c =
     (refused_decided c.args.setup.now c.args.stores.now.content c.args.station c.args.deed.now c.refused.result c.in-Ok-Breaks.rule c.tell_whole.ensures (breaks c.args.setup.now c.args.stores.now.content c.args.station c.args.deed.now c.in-Ok-Breaks.field-0 c.in-Ok-Breaks.rule c.in-Ok-Breaks.ensures c.in-Ok-Breaks.field-0-is) c.refused.ensures.reply c.refused.ensures.change c.refused.ensures.draw)
 
 pub decide_known_draw-requires-clause-allowed : goal.decide_known_draw-requires-clause-allowed
-decide_known_draw-requires-clause-allowed c = ap (broken c.args.setup.now (world_in c.args.stores.now.content) c.args.station) (sym c.in-Draw.is) ∙ (allows c.args.setup.now c.args.stores.now.content c.args.station c.args.deed.now c.in-Ok-Allowed.field-0 c.in-Ok-Allowed.places c.in-Ok-Allowed.ensures c.in-Ok-Allowed.field-0-is).0
+decide_known_draw-requires-clause-allowed c = ap (broken c.args.setup.now (world_in c.args.stores.now.content) c.args.station) (sym c.in-Draw.is) ∙ (allows c.args.setup.now c.args.stores.now.content c.args.station c.args.deed.now c.in-Ok-Allowed.field-0 c.in-Ok-Allowed.found c.in-Ok-Allowed.ensures c.in-Ok-Allowed.field-0-is).0
 
 pub returns-then-not-is_empty-2-clause-fault : goal.returns-then-not-is_empty-2-clause-fault
-returns-then-not-is_empty-2-clause-fault c = λ _. other_none c.args.setup.now (world_in c.args.stores.now.content) c.args.station c.args.deed.now c.args.drawn.now (no_draw c.args.deed.now c.in_default.not-Draw) (allows c.args.setup.now c.args.stores.now.content c.args.station c.args.deed.now c.in-Ok-Allowed.field-0 c.in-Ok-Allowed.places c.in-Ok-Allowed.ensures c.in-Ok-Allowed.field-0-is).0 (some_drawn c.is_empty-2.result c.args.drawn.now c.is_empty-2.ensures c.if-not-is_empty-2.true)
+returns-then-not-is_empty-2-clause-fault c = λ _. other_none c.args.setup.now (world_in c.args.stores.now.content) c.args.station c.args.deed.now c.args.drawn.now (no_draw c.args.deed.now c.in_default.not-Draw) (allows c.args.setup.now c.args.stores.now.content c.args.station c.args.deed.now c.in-Ok-Allowed.field-0 c.in-Ok-Allowed.found c.in-Ok-Allowed.ensures c.in-Ok-Allowed.field-0-is).0 (some_drawn c.is_empty-2.result c.args.drawn.now c.is_empty-2.ensures c.if-not-is_empty-2.true)
 
 pub decide_other-requires : goal.decide_other-requires
 decide_other-requires c =
-    let j = (allows c.args.setup.now c.args.stores.now.content c.args.station c.args.deed.now c.in-Ok-Allowed.field-0 c.in-Ok-Allowed.places c.in-Ok-Allowed.ensures c.in-Ok-Allowed.field-0-is) in
-    record { proper = c.requires.proper; sound = c.requires.sound; allowed = j.0; places = c.as_slice.ensures.value ∙ j.1; other = no_draw c.args.deed.now c.in_default.not-Draw }
+    let j = (allows c.args.setup.now c.args.stores.now.content c.args.station c.args.deed.now c.in-Ok-Allowed.field-0 c.in-Ok-Allowed.found c.in-Ok-Allowed.ensures c.in-Ok-Allowed.field-0-is) in
+    record { proper = c.requires.proper; sound = c.requires.sound; allowed = j.0; found = j.1; other = no_draw c.args.deed.now c.in_default.not-Draw }

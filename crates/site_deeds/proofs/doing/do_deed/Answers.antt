@@ -2,7 +2,7 @@ use Rattle.std.proofs.Common.{◌≡◌, ◌+◌, ◌≤◌, ◌≢◌, List, No
 use Rattle.std.specs.Prelude.{IsSome}
 use Rattle.std.specs.List.{IsDistinct, AllByRecursion as Every}
 use Rattle.epc_urn.specs.declared.epc.Epc.{Epc}
-use Rattle.deed_words.specs.Deeds.{named}
+use Rattle.deed_words.specs.Deeds.{named, order_rows}
 use Rattle.deed_words.specs.Names.{same_name}
 use Rattle.deed_words.specs.Orders.{new_orders, orders_in}
 use Rattle.deed_words.specs.Rules.{broken}
@@ -15,6 +15,7 @@ use Rattle.site_rules.specs.Suits.{is_draw}
 use Rattle.site_deeds.specs.Placed.{CanMove}
 use Rattle.site_deeds.proofs.FromRules.{start_batch, close_batch, amend_batch, declare_batch, lend_batch, make_batch, amend_open, declare_started, seal_unit, unseal_unit, void_unit, pack_unit, empty_unit, units_left, codes_left, order_room, orders_room, move_once, move_can, pack_known, pack_once, pack_alone, unpack_once, unpack_inside, unpack_known}
 use Rattle.site_deeds.proofs.OfDeed.{does_order, does_orders, does_lend, does_make, does_put, does_take, does_empty, does_declare, does_move, does_start, does_close, does_amend, does_seal, does_unseal, does_void, moves_rows}
+use Rattle.site_deeds.proofs.OfOrders.{found_origins}
 use Rattle.site_deeds.proofs.doing.do_deed.Goals as goal
 
 pub order-requires-clause-batches : goal.order-requires-clause-batches
@@ -24,6 +25,14 @@ order-requires-clause-batches c =
 pub order-requires-in-Orders-clause-batches : goal.order-requires-in-Orders-clause-batches
 order-requires-in-Orders-clause-batches c =
     subst (λ (rows : List OrderRow). length c.args.stores.now.content.batches + length (new_orders (orders_in (world_in c.args.stores.now.content)) rows) ≤ 4096) (sym c.as_slice.ensures) (orders_room c.args.setup.now (world_in c.args.stores.now.content) c.args.station c.in-Orders.rows (ap (broken c.args.setup.now (world_in c.args.stores.now.content) c.args.station) (sym c.in-Orders.is) ∙ c.requires.allowed))
+
+pub order-requires-clause-origins : goal.order-requires-clause-origins
+unfolding order_rows
+order-requires-clause-origins c = found_origins c.args.stores.now.content c.args.deed.now c.args.found.now c.from_ref.result.now c.as_slice-origins.result.now c.requires.found (c.from_ref.ensures.value ∙ sym (ap order_rows c.in-Order.is)) c.as_slice-origins.ensures.value
+
+pub order-requires-in-Orders-clause-origins : goal.order-requires-in-Orders-clause-origins
+unfolding order_rows
+order-requires-in-Orders-clause-origins c = found_origins c.args.stores.now.content c.args.deed.now c.args.found.now c.as_slice.result.now c.as_slice-origins.result.now c.requires.found (c.as_slice.ensures ∙ sym (ap order_rows c.in-Orders.is)) c.as_slice-origins.ensures.value
 
 pub to_phase-requires : goal.to_phase-requires
 to_phase-requires c = record { there = start_batch c.args.setup.now (world_in c.args.stores.now.content) c.args.station c.in-Start.name (ap (broken c.args.setup.now (world_in c.args.stores.now.content) c.args.station) (sym c.in-Start.is) ∙ c.requires.allowed) }
@@ -49,7 +58,7 @@ put-requires-clause-there c = pack_unit c.args.setup.now (world_in c.args.stores
 
 pub put-requires-clause-places : goal.put-requires-clause-places
 unfolding named
-put-requires-clause-places c = c.requires.places ∙ ap (λ (d : Deed). map (place_of c.args.stores.now.content.rows c.args.stores.now.content.units) (named (world_in c.args.stores.now.content) d)) c.in-Pack.is ∙ ap (map (place_of c.args.stores.now.content.rows c.args.stores.now.content.units)) (sym c.as_slice-in-Pack.ensures)
+put-requires-clause-places c = (c.as_slice-places.ensures.value ∙ c.requires.found.places_are) ∙ ap (λ (d : Deed). map (place_of c.args.stores.now.content.rows c.args.stores.now.content.units) (named (world_in c.args.stores.now.content) d)) c.in-Pack.is ∙ ap (map (place_of c.args.stores.now.content.rows c.args.stores.now.content.units)) (sym c.as_slice-in-Pack.ensures)
 
 pub put-requires-clause-once : goal.put-requires-clause-once
 put-requires-clause-once c = subst (IsDistinct same_name) (sym c.as_slice-in-Pack.ensures) (pack_once c.args.setup.now (world_in c.args.stores.now.content) c.args.station c.in-Pack.sscc c.in-Pack.children (ap (broken c.args.setup.now (world_in c.args.stores.now.content) c.args.station) (sym c.in-Pack.is) ∙ c.requires.allowed))
@@ -59,11 +68,11 @@ put-requires-clause-alone c = subst (Every (λ (child : Epc). parent (world_in c
 
 pub put-requires-clause-known : goal.put-requires-clause-known
 unfolding named
-put-requires-clause-known c = subst (Every (λ place. place ≢ None)) (sym (c.requires.places ∙ ap (λ (d : Deed). map (place_of c.args.stores.now.content.rows c.args.stores.now.content.units) (named (world_in c.args.stores.now.content) d)) c.in-Pack.is)) (pack_known c.args.setup.now c.args.stores.now.content c.args.station c.in-Pack.sscc c.in-Pack.children (ap (broken c.args.setup.now (world_in c.args.stores.now.content) c.args.station) (sym c.in-Pack.is) ∙ c.requires.allowed))
+put-requires-clause-known c = subst (Every (λ place. place ≢ None)) (sym ((c.as_slice-places.ensures.value ∙ c.requires.found.places_are) ∙ ap (λ (d : Deed). map (place_of c.args.stores.now.content.rows c.args.stores.now.content.units) (named (world_in c.args.stores.now.content) d)) c.in-Pack.is)) (pack_known c.args.setup.now c.args.stores.now.content c.args.station c.in-Pack.sscc c.in-Pack.children (ap (broken c.args.setup.now (world_in c.args.stores.now.content) c.args.station) (sym c.in-Pack.is) ∙ c.requires.allowed))
 
 pub take-requires-clause-places : goal.take-requires-clause-places
 unfolding named
-take-requires-clause-places c = c.requires.places ∙ ap (λ (d : Deed). map (place_of c.args.stores.now.content.rows c.args.stores.now.content.units) (named (world_in c.args.stores.now.content) d)) c.in-Unpack.is ∙ ap (map (place_of c.args.stores.now.content.rows c.args.stores.now.content.units)) (sym c.as_slice-in-Unpack.ensures)
+take-requires-clause-places c = (c.as_slice-places.ensures.value ∙ c.requires.found.places_are) ∙ ap (λ (d : Deed). map (place_of c.args.stores.now.content.rows c.args.stores.now.content.units) (named (world_in c.args.stores.now.content) d)) c.in-Unpack.is ∙ ap (map (place_of c.args.stores.now.content.rows c.args.stores.now.content.units)) (sym c.as_slice-in-Unpack.ensures)
 
 pub take-requires-clause-once : goal.take-requires-clause-once
 take-requires-clause-once c = subst (IsDistinct same_name) (sym c.as_slice-in-Unpack.ensures) (unpack_once c.args.setup.now (world_in c.args.stores.now.content) c.args.station c.in-Unpack.field-0 c.in-Unpack.children (ap (broken c.args.setup.now (world_in c.args.stores.now.content) c.args.station) (sym c.in-Unpack.is) ∙ c.requires.allowed))
@@ -73,7 +82,7 @@ take-requires-clause-inside c = subst (Every (λ (child : Epc). IsSome (parent (
 
 pub take-requires-clause-known : goal.take-requires-clause-known
 unfolding named
-take-requires-clause-known c = subst (Every (λ place. place ≢ None)) (sym (c.requires.places ∙ ap (λ (d : Deed). map (place_of c.args.stores.now.content.rows c.args.stores.now.content.units) (named (world_in c.args.stores.now.content) d)) c.in-Unpack.is)) (unpack_known c.args.setup.now c.args.stores.now.content c.args.station c.in-Unpack.field-0 c.in-Unpack.children c.tell_whole.ensures (ap (broken c.args.setup.now (world_in c.args.stores.now.content) c.args.station) (sym c.in-Unpack.is) ∙ c.requires.allowed))
+take-requires-clause-known c = subst (Every (λ place. place ≢ None)) (sym ((c.as_slice-places.ensures.value ∙ c.requires.found.places_are) ∙ ap (λ (d : Deed). map (place_of c.args.stores.now.content.rows c.args.stores.now.content.units) (named (world_in c.args.stores.now.content) d)) c.in-Unpack.is)) (unpack_known c.args.setup.now c.args.stores.now.content c.args.station c.in-Unpack.field-0 c.in-Unpack.children c.tell_whole.ensures (ap (broken c.args.setup.now (world_in c.args.stores.now.content) c.args.station) (sym c.in-Unpack.is) ∙ c.requires.allowed))
 
 pub empty-requires : goal.empty-requires
 empty-requires c = record { there = empty_unit c.args.setup.now (world_in c.args.stores.now.content) c.args.station c.in-UnpackAll.sscc (ap (broken c.args.setup.now (world_in c.args.stores.now.content) c.args.station) (sym c.in-UnpackAll.is) ∙ c.requires.allowed) }
@@ -102,11 +111,14 @@ amend-requires-clause-there c = amend_batch c.args.setup.now (world_in c.args.st
 pub amend-requires-clause-working : goal.amend-requires-clause-working
 amend-requires-clause-working c = amend_open c.args.setup.now (world_in c.args.stores.now.content) c.args.station c.in-Amend.name c.in-Amend.quantity (ap (broken c.args.setup.now (world_in c.args.stores.now.content) c.args.station) (sym c.in-Amend.is) ∙ c.requires.allowed)
 
+pub move_rows-requires-clause-places : goal.move_rows-requires-clause-places
+move_rows-requires-clause-places c = c.as_slice-places.ensures.value ∙ c.requires.found.places_are
+
 pub move_rows-requires-clause-once : goal.move_rows-requires-clause-once
 move_rows-requires-clause-once c = move_once c.args.setup.now (world_in c.args.stores.now.content) c.args.station c.args.deed.now (moves_rows c.args.deed.now c.in-Commission.is) c.requires.allowed
 
 pub move_rows-requires-clause-can : goal.move_rows-requires-clause-can
-move_rows-requires-clause-can c = subst (Every (CanMove c.args.deed.now c.args.stores.now.content.rows)) (sym c.requires.places) (move_can c.args.setup.now c.args.stores.now.content c.args.station c.args.deed.now (moves_rows c.args.deed.now c.in-Commission.is) c.requires.allowed)
+move_rows-requires-clause-can c = subst (Every (CanMove c.args.deed.now c.args.stores.now.content.rows)) (sym (c.as_slice-places.ensures.value ∙ c.requires.found.places_are)) (move_can c.args.setup.now c.args.stores.now.content c.args.station c.args.deed.now (moves_rows c.args.deed.now c.in-Commission.is) c.requires.allowed)
 
 pub returns-in-Order-clause-done : goal.returns-in-Order-clause-done
 returns-in-Order-clause-done c = does_order c.args.setup.now c.args.station c.args.deed.now c.order.new.stores c.order.result c.in-Order.row c.from_ref.result.now c.in-Order.is c.from_ref.ensures.value c.order.ensures.done

@@ -1,4 +1,4 @@
-use Rattle.std.proofs.Common.{◌≡◌, Some, sym, ap, ◌∙◌, refl, subst}
+use Rattle.std.proofs.Common.{◌≡◌, length, Some, sym, ap, ◌∙◌, refl, subst}
 use Rattle.std.specs.List.{position, slice_get}
 use Rattle.pack_tree.specs.Many.{MayTake}
 use Rattle.pack_tree.specs.Pairs.{inside}
@@ -19,6 +19,6 @@ returns-clause-done c =
     let k = c.args.stores.now.content in
     let found = sym c.find_unit.ensures ∙ c.in-Some.is in
     let kept = got k.units c.in-Some.unit (within (is_coded c.args.sscc.now) k.units c.in-Some.unit found) in
-    empty_does c.try_empty.new.self _ c.args.sscc.now c.in-Some.unit kept.0 c.count_inside-count.result c.in_ok-gone.gone (subst IsWhole back c.tell_whole.ensures)
+    empty_does c.try_empty.new.self _ c.args.sscc.now c.in-Some.unit kept.0 _ c.in_ok-gone.gone (subst IsWhole back c.tell_whole.ensures)
     (subst (λ (x : Content). position (is_coded c.args.sscc.now) x.units ≡ Some c.in-Some.unit) back found) (subst (λ (x : Content). slice_get x.units c.in-Some.unit ≡ Some kept.0) back kept.1)
-    (subst (λ (x : Content). MayTake (packed_in x) c.in_ok-gone.gone) back c.in_ok-gone.ensures.may) (c.in_ok-gone.ensures.nodes ∙ ap (λ (x : Content). inside c.in-Some.unit x.links) back) c.count_inside-count.ensures refl refl
+    (subst (λ (x : Content). MayTake (packed_in x) c.in_ok-gone.gone) back c.in_ok-gone.ensures.may) (c.in_ok-gone.ensures.nodes ∙ ap (λ (x : Content). inside c.in-Some.unit x.links) back) (ap length c.as_slice.ensures) refl refl

@@ -1,8 +1,6 @@
-use Rattle.std.proofs.Common.{ℕ, sym, ap, ◌∙◌, List, length}
+use Rattle.std.proofs.Common.{ℕ, sym, ap, ◌∙◌, length}
 use Rattle.std.proofs.lemmas.List.{length-map}
-use Rattle.deed_words.specs.Orders.{new_orders, orders_in}
 use Rattle.deed_words.specs.Tests.{full, site_full}
-use Rattle.deed_words.specs.declared.deed.OrderRow.{OrderRow}
 use Rattle.deed_words.specs.declared.deed.Deed.{Deed}
 use Rattle.deed_words.specs.declared.words.What.TheVariants.{Batches, Serials, Units}
 use Rattle.batch_book.specs.Content.{world_in, row_in, unit_in, batch_names}
@@ -13,7 +11,7 @@ pub returns-in_default : goal.returns-in_default
 returns-in_default c =
     let w = world_in c.args.asked.now.stores.now.content in
     c.full-in_default.ensures ∙ ap (λ (have : ℕ). full Batches have c.count_new-more.result 4096) c.batch_count-have.ensures
-    ∙ ap (λ (more : ℕ). full Batches (length w.batches) more 4096) (c.count_new-more.ensures.is ∙ ap (λ (rows : List OrderRow). length (new_orders (orders_in w) rows)) c.order_rows.ensures)
+    ∙ ap (λ (more : ℕ). full Batches (length w.batches) more 4096) c.count_new-more.ensures.is
     ∙ sym (full_else c.args.asked.now.setup.now w c.args.asked.now.station c.args.asked.now.deed.now c.in_default.not-Draw c.in_default.not-Container)
 
 pub returns-in-Draw : goal.returns-in-Draw

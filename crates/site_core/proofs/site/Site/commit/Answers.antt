@@ -2,10 +2,12 @@ use Rattle.std.proofs.Common.{◌-◌, ◌∙◌, ◌++◌, ◌∷◌, [], ℕ, 
 use Rattle.site_core.specs.declared.kept.Kept.{Kept}
 use Rattle.site_core.specs.declared.planned.Planned.{Planned}
 use Rattle.site_core.specs.Plans.{IsNext, IsLast}
-use Rattle.site_core.specs.Rooms.{IsKnown}
+use Rattle.move_list.specs.Held.{room_after}
+use Rattle.site_core.specs.Rooms.{IsKnown, HasRoomToMove}
 use Rattle.site_core.specs.View.{View}
 use Rattle.site_core.specs.Entries.{history_in}
-use Rattle.site_core.proofs.Roomy.{room_spent}
+use Rattle.site_core.proofs.Listing.{kept_more, few_more, few_kept}
+use Rattle.site_core.proofs.Roomy.{room_spent, first_move}
 use Rattle.site_core.proofs.Standing.{grown, last_of, told_is, history_grown}
 use Rattle.site_core.proofs.site.Site.commit.Goals as goal
 
@@ -18,9 +20,13 @@ invariant_of-self c =
     let planned = c.args.planned in
     let next : IsNext site (history_in told kept) content planned = subst (λ (v : View). IsNext v.setup v.history v.content planned) (sym c.self.view_is) c.requires.next in
     let page = told_is told c.push.new.self.told planned c.split-kept.result.0 c.station.result c.split-kept.result.1 c.split-kept.ensures.kept c.station.ensures c.split-kept.ensures.deed c.push.ensures.told in
-    let history = history_grown site told c.push.new.self.told kept c.push_reserved.new.self.items content c.self.inside.pool planned c.split-kept.result.0 c.self.invariant next c.split-kept.ensures.kept c.push_reserved.ensures.items page in
-    grown site (history_in told kept) _ told c.push.new.self.told content c.apply.new.self.content c.self.inside.pool c.commit_draw-done.new.pool planned c.self.invariant next
-    (subst (λ (v : View). IsKnown v.room.gtins planned.draw) (sym c.self.view_is) c.requires.room.gtins.0) history page c.apply.ensures.content c.commit_draw-done.ensures.drawn c.commit_draw-done.ensures.gtins
+    let history = history_grown site told c.push.new.self.told kept c.push_reserved.new.self.items content c.self.inside.pool planned c.split-kept.result.0 c.self.invariant.stands next c.split-kept.ensures.kept c.push_reserved.ensures.items page in
+    record {
+      stands = grown site (history_in told kept) _ told c.push.new.self.told content c.apply.new.self.content c.self.inside.pool c.commit_draw-done.new.pool planned c.self.invariant.stands next
+          (subst (λ (v : View). IsKnown v.room.gtins planned.draw) (sym c.self.view_is) c.requires.room.gtins.0) history page c.apply.ensures.content c.commit_draw-done.ensures.drawn c.commit_draw-done.ensures.gtins;
+      moved = kept_more site (history_in told kept) _ content c.self.inside.moves.moves _ planned c.self.invariant.moved next history c.push-has_moved.ensures.moves;
+      few = few_more site (history_in told kept) _ content planned next history;
+    }
 
 pub returns-clause-history : goal.returns-clause-history
 returns-clause-history c =
@@ -31,7 +37,7 @@ returns-clause-history c =
     let planned = c.args.planned in
     let next : IsNext site (history_in told kept) content planned = subst (λ (v : View). IsNext v.setup v.history v.content planned) (sym c.self.view_is) c.requires.next in
     let page = told_is told c.push.new.self.told planned c.split-kept.result.0 c.station.result c.split-kept.result.1 c.split-kept.ensures.kept c.station.ensures c.split-kept.ensures.deed c.push.ensures.told in
-    history_grown site told c.push.new.self.told kept c.push_reserved.new.self.items content c.self.inside.pool planned c.split-kept.result.0 c.self.invariant next c.split-kept.ensures.kept c.push_reserved.ensures.items page
+    history_grown site told c.push.new.self.told kept c.push_reserved.new.self.items content c.self.inside.pool planned c.split-kept.result.0 c.self.invariant.stands next c.split-kept.ensures.kept c.push_reserved.ensures.items page
     ∙ ap (λ (v : View). v.history ++ planned.entry ∷ []) c.self.view_is
 
 pub returns-clause-room : goal.returns-clause-room
@@ -45,6 +51,7 @@ returns-clause-room c =
     (ap (λ (v : View). v.room.stores) (sym c.self.view_is) ∙ c.apply.ensures.room)
     (c.commit_draw-done.ensures.room ∙ ap (λ (v : View). v.room.serials) c.self.view_is)
     (c.commit_draw-done.ensures.gtins ∙ ap (λ (v : View). v.room.gtins) c.self.view_is)
+    (c.push-has_moved.ensures.room ∙ ap (λ (v : View). room_after v.room.moves c.args.planned.moved) c.self.view_is)
 
 pub returns-clause-last : goal.returns-clause-last
 returns-clause-last c =
@@ -55,6 +62,19 @@ returns-clause-last c =
     let planned = c.args.planned in
     let next : IsNext site (history_in told kept) content planned = subst (λ (v : View). IsNext v.setup v.history v.content planned) (sym c.self.view_is) c.requires.next in
     let page = told_is told c.push.new.self.told planned c.split-kept.result.0 c.station.result c.split-kept.result.1 c.split-kept.ensures.kept c.station.ensures c.split-kept.ensures.deed c.push.ensures.told in
-    let history = history_grown site told c.push.new.self.told kept c.push_reserved.new.self.items content c.self.inside.pool planned c.split-kept.result.0 c.self.invariant next c.split-kept.ensures.kept c.push_reserved.ensures.items page in
+    let history = history_grown site told c.push.new.self.told kept c.push_reserved.new.self.items content c.self.inside.pool planned c.split-kept.result.0 c.self.invariant.stands next c.split-kept.ensures.kept c.push_reserved.ensures.items page in
     subst (λ (p : Planned). IsLast site (history_in c.push.new.self.told c.push_reserved.new.self.items) c.apply.new.self.content p) (sym c.of-whole.ensures)
-    (last_of site (history_in told kept) _ content _ planned c.self.invariant.world next history c.apply.ensures.content)
+    (last_of site (history_in told kept) _ content _ planned c.self.invariant.stands.world next history c.apply.ensures.content)
+
+pub push-has_moved-requires-clause-few : goal.push-has_moved-requires-clause-few
+push-has_moved-requires-clause-few c =
+    let site = c.self.inside.setup in
+    let history = history_in c.self.inside.memo.told c.self.inside.kept.items in
+    let next : IsNext site history c.self.inside.stores.content c.args.planned = subst (λ (v : View). IsNext v.setup v.history v.content c.args.planned) (sym c.self.view_is) c.requires.next in
+    let most = few_kept site history c.self.inside.moves.moves c.self.invariant.moved in
+    let few = next.few in
+    omega (arith, most, few)
+
+pub push-has_moved-requires-clause-room : goal.push-has_moved-requires-clause-room
+push-has_moved-requires-clause-room c =
+    first_move c.self.inside.moves.room c.args.planned [] (subst (λ (v : View). HasRoomToMove v.room.moves (c.args.planned ∷ [])) (sym c.self.view_is) c.requires.room.moves)

@@ -13,7 +13,11 @@ use Rattle.site_core.proofs.Standing.{stands_still}
 use Rattle.site_core.proofs.site.Site.decide_known.Goals as goal
 
 pub invariant_of-self : goal.invariant_of-self
-invariant_of-self c = stands_still c.self.inside.setup _ c.self.inside.memo.told _ _ c.self.inside.pool _ c.self.invariant c.decide_known.ensures.content c.decide_known.ensures.drawn c.decide_known.ensures.still
+invariant_of-self c = record {
+  stands = stands_still c.self.inside.setup _ c.self.inside.memo.told _ _ c.self.inside.pool _ c.self.invariant.stands c.decide_known.ensures.content c.decide_known.ensures.drawn c.decide_known.ensures.still;
+  moved = c.self.invariant.moved;
+  few = c.self.invariant.few;
+}
 
 pub returns-clause-known : goal.returns-clause-known
 returns-clause-known c =
@@ -21,12 +25,12 @@ returns-clause-known c =
 
 pub returns-clause-fault : goal.returns-clause-fault
 returns-clause-fault c =
-    let world = c.self.invariant.world in
+    let world = c.self.invariant.stands.world in
     subst (λ (v : View). IfErr c.decide_known.result (λ fault. fault ≡ NotDrawn → MayDraw v.setup (world_of v.setup v.history) (broken v.setup (world_of v.setup v.history) c.args.entry.now.station c.args.entry.now.deed) c.args.entry.now.deed c.args.entry.now.drawn → ⊥)) c.self.view_is
     (subst (λ (w : World). IfErr c.decide_known.result (λ fault. fault ≡ NotDrawn → MayDraw c.self.inside.setup w (broken c.self.inside.setup w c.args.entry.now.station c.args.entry.now.deed) c.args.entry.now.deed c.args.entry.now.drawn → ⊥)) world c.decide_known.ensures.fault)
 
 pub returns-clause-world : goal.returns-clause-world
-returns-clause-world c = subst (λ (v : View). world_in v.content ≡ world_of v.setup v.history) c.self.view_is c.self.invariant.world
+returns-clause-world c = subst (λ (v : View). world_in v.content ≡ world_of v.setup v.history) c.self.view_is c.self.invariant.stands.world
 
 pub returns-clause-room : goal.returns-clause-room
 returns-clause-room c = both_fit c.decide_known.new.pool _ c.decide_known.result refl refl c.decide_known.ensures.room c.decide_known.ensures.draw_room
@@ -39,6 +43,7 @@ returns-clause-kept c =
       stores = c.decide_known.new.stores.room;
       serials = c.decide_known.new.pool.room;
       gtins = c.decide_known.new.pool.gtins;
+      moves = c.self.inside.moves.room;
     } in
     subst (λ (v : View). IsRoomier v.room new) c.self.view_is
-    (roomier_by _ new c.self.inside.pool c.decide_known.new.pool refl refl c.decide_known.ensures.kept refl refl refl refl c.decide_known.ensures.pool_kept c.decide_known.ensures.still)
+    (roomier_by _ new c.self.inside.pool c.decide_known.new.pool refl refl c.decide_known.ensures.kept refl refl refl refl c.decide_known.ensures.pool_kept c.decide_known.ensures.still refl)

@@ -16,7 +16,7 @@ fault_of-requires-clause-few c =
     let told = c.self.inside.memo.told in
     let kept = c.self.inside.kept.items in
     let station = c.args.entry.now.station in
-    let long = count_told c.self.inside.setup (history_in told kept) station (told_by told station) (c.self.invariant.told station) in
+    let long = count_told c.self.inside.setup (history_in told kept) station (told_by told station) (c.self.invariant.stands.told station) in
     let few = own_few station (history_in told kept) in
     let all = counted told kept in
     let small = c.count_entries-entries.ensures.few in
@@ -29,7 +29,7 @@ returns-clause-fault c =
     let kept = c.self.inside.kept.items in
     let station = c.args.entry.now.station in
     subst (λ (v : View). IfSome c.fault_of.result (λ fault. Fails v.setup v.history c.args.entry.now fault)) c.self.view_is
-    (early_fails c.self.inside.setup (history_in told kept) c.args.entry.now _ _ c.fault_of.result (ap (λ (n : ℕ). n + 1) (count_told c.self.inside.setup (history_in told kept) station (told_by told station) (c.self.invariant.told station)))
+    (early_fails c.self.inside.setup (history_in told kept) c.args.entry.now _ _ c.fault_of.result (ap (λ (n : ℕ). n + 1) (count_told c.self.inside.setup (history_in told kept) station (told_by told station) (c.self.invariant.stands.told station)))
     (c.stamp_of_last.ensures told ∙ ap (λ (ks : List Kept). last_stamp (history_in told ks)) c.deref-2.ensures.value) c.fault_of.ensures.fault)
 
 pub returns-clause-none : goal.returns-clause-none
@@ -38,5 +38,5 @@ returns-clause-none c =
     let kept = c.self.inside.kept.items in
     let station = c.args.entry.now.station in
     subst (λ (v : View). IfNone c.fault_of.result (IsStamped v.setup (length (own station v.history) + 1) (last_stamp v.history) c.args.entry.now)) c.self.view_is
-    (none_fails c.self.inside.setup (history_in told kept) c.args.entry.now _ _ c.fault_of.result (ap (λ (n : ℕ). n + 1) (count_told c.self.inside.setup (history_in told kept) station (told_by told station) (c.self.invariant.told station)))
+    (none_fails c.self.inside.setup (history_in told kept) c.args.entry.now _ _ c.fault_of.result (ap (λ (n : ℕ). n + 1) (count_told c.self.inside.setup (history_in told kept) station (told_by told station) (c.self.invariant.stands.told station)))
     (c.stamp_of_last.ensures told ∙ ap (λ (ks : List Kept). last_stamp (history_in told ks)) c.deref-2.ensures.value) c.fault_of.ensures.none)

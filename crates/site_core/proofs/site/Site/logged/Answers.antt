@@ -30,7 +30,7 @@ told-told-requires-clause-station c =
     let l : c.args.place < length kept = omega (arith, c.requires, many, same) in
     let k : Kept = c.index-kept.result.now in
     let is : k ≡ get_or kept c.args.place k = c.index-kept.ensures in
-    page_there told k.station k.number (on_page told kept c.args.place k (paged c.self.inside.setup (history_in told kept) told c.self.invariant.lawful c.self.invariant.told) l is)
+    page_there told k.station k.number (on_page told kept c.args.place k (paged c.self.inside.setup (history_in told kept) told c.self.invariant.stands.lawful c.self.invariant.stands.told) l is)
 
 pub told-told-requires-clause-number : goal.told-told-requires-clause-number
 told-told-requires-clause-number c =
@@ -41,7 +41,7 @@ told-told-requires-clause-number c =
     let l : c.args.place < length kept = omega (arith, c.requires, many, same) in
     let k : Kept = c.index-kept.result.now in
     let is : k ≡ get_or kept c.args.place k = c.index-kept.ensures in
-    on_page told kept c.args.place k (paged c.self.inside.setup (history_in told kept) told c.self.invariant.lawful c.self.invariant.told) l is
+    on_page told kept c.args.place k (paged c.self.inside.setup (history_in told kept) told c.self.invariant.stands.lawful c.self.invariant.stands.told) l is
 
 pub returns : goal.returns
 unfolding entry_in
@@ -55,12 +55,12 @@ returns c front more entry e long =
     let k : Kept = c.index-kept.result.now in
     let t : Told = c.told-told.result.now in
     let is : k ≡ get_or kept c.args.place k = c.index-kept.ensures in
-    let page = on_page told kept c.args.place k (paged site (history_in told kept) told c.self.invariant.lawful c.self.invariant.told) l is in
+    let page = on_page told kept c.args.place k (paged site (history_in told kept) told c.self.invariant.stands.lawful c.self.invariant.stands.told) l is in
     let split : history_in told kept ≡ front ++ entry ∷ more = ap (λ (v : View). v.history) c.self.view_is ∙ e in
     let here : entry_in told k ≡ entry = entry_at told kept front more entry c.args.place k split long l is in
     let there : t ≡ get_or (told_by told entry.station) (entry.number - 1) t = subst (λ (x : Entry). t ≡ get_or (told_by told x.station) (x.number - 1) t) here c.told-told.ensures in
-    let lawful : IsLawful site (front ++ entry ∷ more) = subst (λ (h : List Entry). IsLawful site h) split c.self.invariant.lawful in
-    let are : AreToldTo site (front ++ entry ∷ more) entry.station (told_by told entry.station) = subst (λ (h : List Entry). AreToldTo site h entry.station (told_by told entry.station)) split (c.self.invariant.told entry.station) in
+    let lawful : IsLawful site (front ++ entry ∷ more) = subst (λ (h : List Entry). IsLawful site h) split c.self.invariant.stands.lawful in
+    let are : AreToldTo site (front ++ entry ∷ more) entry.station (told_by told entry.station) = subst (λ (h : List Entry). AreToldTo site h entry.station (told_by told entry.station)) split (c.self.invariant.stands.told entry.station) in
     let reply = reply_is site (front ++ entry ∷ more) entry.station entry.number (told_by told entry.station) t entry _ are (c.numbers_mean_one_thing.ensures.answered site front more entry lawful) there in
     record {
       station = ap (λ (x : Entry). x.station) here;

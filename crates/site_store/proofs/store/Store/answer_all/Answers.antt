@@ -19,6 +19,7 @@ use Rattle.site_store.specs.declared.outcome.Outcome.TheVariants.{Memory}
 use Rattle.std.proofs.lemmas.List.{length-append}
 use Rattle.site_store.specs.Tried.{Tried}
 use Rattle.site_store.proofs.Gathering.{going_start, going_on}
+use Rattle.site_store.proofs.Calling.{no_calls, calls_are}
 use Rattle.site_store.proofs.Counting.{just_start, just_more, often_tried, often_finished, clock_told, words_told, causes_of, cause_is, unblamed, lost_tells, written_tell, wanting_tell}
 use Rattle.site_store.proofs.Finishing.{long_entries}
 use Rattle.site_store.proofs.Whole.{no_entries, none_left, start_trying, tried_short, all_wanting, all_written, all_lost}
@@ -212,3 +213,33 @@ returns-clause-words g c =
     let rows = noted_in c.asks.group.rows.items in
     causes_of kind.Words (notes_of u) (notes_of s) (notes_of t) f.0 (how_often kind.Words rows) (g.W.Words.word_faults s.words) (g.W.Words.word_faults s.words) (g.W.Words.word_faults u.words) (g.W.Words.word_faults t.words) (ap noted_in (sym was.notes)) f.1
     (often_finished kind.Words c.asks.group.base.value.history (entries_of c.asks.group.committed.items) c.args.worker rows finish.Lost (store_state t) f.0 f.2 refl) was.words refl (ap g.W.Words.word_faults c.finish.ensures.devices.1)
+
+pub returns-in_default-clause-calls : goal.returns-in_default-clause-calls
+returns-in_default-clause-calls g c =
+    let s = c.args.self.now in
+    let pending : (store_state s).pending ≡ [] = ap (λ (l : List Planned). entries_of (in_order l)) c.requires.none in
+    no_calls s.site.history (tells_disk_fault c.refuse_all.new.outcomes.items (store_state s).pending) (store_state s) (g.D.Disk.disk_calls s.journal.disk) (g.D.Disk.disk_calls s.journal.disk)
+    (ap (λ l. tells_disk_fault l (store_state s).pending) c.refuse_all.ensures ∙ ap (λ l. tells_disk_fault (map (λ (ask : Ask). Memory) c.args.asks.items) l) pending ∙ wanting_tell c.args.asks.items)
+    (ap (λ (l : List Planned). state_of s.site (in_order l)) c.requires.none) refl
+
+pub returns-in-Written-clause-calls : goal.returns-in-Written-clause-calls
+returns-in-Written-clause-calls g c =
+    let s = c.args.self.now in
+    let was = c.asks.invariant in
+    let t = c.finish.new.self in
+    let f = c.in-Written.ensures.finishes in
+    calls_are c.asks.group.base.value.history s.site.history false (tells_disk_fault c.asks.outcomes.items (store_state t).pending) (store_state t) (g.D.Disk.disk_calls c.asks.self.journal.disk) (g.D.Disk.disk_calls s.journal.disk) (g.D.Disk.disk_calls t.journal.disk) c.in-Written.ensures.calls
+    (ap (λ (v : View). v.history) (sym was.base))
+    (ap (λ l. tells_disk_fault l (store_state t).pending) was.going.outcomes_are ∙ ap (λ (x : State). tells_disk_fault (outcomes_in was.going.tries) x.pending) f.2.0 ∙ written_tell s.site.setup s.journal.end s.site.history [] c.args.worker was.going.tries was.going.are)
+    (ap (λ j. g.D.Disk.disk_calls j.disk) (sym was.journal))
+
+pub returns-clause-calls : goal.returns-clause-calls
+returns-clause-calls g c =
+    let s = c.args.self.now in
+    let was = c.asks.invariant in
+    let t = c.finish.new.self in
+    let f = c.in-Lost.ensures.finishes in
+    calls_are c.asks.group.base.value.history s.site.history true (tells_disk_fault c.fail_from.new.outcomes.items (store_state t).pending) (store_state t) (g.D.Disk.disk_calls c.asks.self.journal.disk) (g.D.Disk.disk_calls s.journal.disk) (g.D.Disk.disk_calls t.journal.disk) c.in-Lost.ensures.calls
+    (ap (λ (v : View). v.history) (sym was.base))
+    (ap (λ l. tells_disk_fault l (store_state t).pending) (c.fail_from.ensures ∙ sym was.going.lost_is) ∙ lost_tells was.going.tries (store_state t).pending (λ none. f.2.0 (was.going.front_is ∙ none)))
+    (ap (λ j. g.D.Disk.disk_calls j.disk) (sym was.journal))

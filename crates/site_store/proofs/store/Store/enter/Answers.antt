@@ -1,4 +1,4 @@
-use Rattle.std.proofs.Common.{◌≡◌, ◌∙◌, ◌-◌, ◌≤◌, max, ℕ, [], ◌∷◌, length, refl, sym, subst, ap, arith, append-nil, vec_len, vec_capacity}
+use Rattle.std.proofs.Common.{inl, inr, ◌≡◌, ◌∙◌, ◌-◌, ◌≤◌, max, ℕ, [], ◌∷◌, length, refl, sym, subst, ap, append-nil, vec_len, vec_capacity}
 use Rattle.std.specs.Io.KnownBytes.{Consumes}
 use Rattle.std.proofs.KnownBytes.{Consumes-nil, Consumes-kept}
 use Rattle.deed_words.specs.declared.entry.FaultKind.TheVariants as kind
@@ -22,7 +22,7 @@ returns-then-not-make_place-clause-tried g c =
       rw (m.devices.0) (Consumes-nil (g.C.Clock.moments_left s.clock)),
       rw (m.devices.1) (Consumes-nil (g.W.Words.words_left s.words)),
       tried_stays s.site.setup s.journal.end s.site.history c.make_place.new.self.site.history (entries_of gr.committed.items) (entries_of c.make_place.new.group.committed.items) (noted_in gr.rows.items) (noted_in c.make_place.new.group.rows.items) c.args.worker c.args.ask nothing_taken Memory
-          (omega arith, refl) (ap (λ (v : View). v.history) m.site) (ap entries_of m.group.1) (ap noted_in m.group.0 ∙ sym (append-nil (noted_in gr.rows.items))),
+          (inl refl, refl) (ap (λ (v : View). v.history) m.site) (ap entries_of m.group.1) (ap noted_in m.group.0 ∙ sym (append-nil (noted_in gr.rows.items))),
     )
 
 pub returns-in_default-clause-tried : goal.returns-in_default-clause-tried
@@ -159,10 +159,12 @@ returns-in-Err-Memory-clause-tried g c =
     let took = p.1 in
     let words : Consumes (g.W.Words.words_left s.words) (g.W.Words.words_left c.plan.new.words) p.0 = rw (m.devices.1) at took in
     let history : c.plan.new.self.history ≡ s.site.history = c.in-Err-Memory.ensures.same.1 ∙ ap (λ (v : View). v.history) site in
-    let means = new_means s.site.setup s.site.history c.args.ask c.requires.next in (
+    let means = new_means s.site.setup s.site.history c.args.ask c.requires.next in
+    let told = rw (c.in-Err-Memory.field-0-is) at p.2 in
+    let takes = rw site at told in (
       taken,
       clock,
       words,
       tried_stays s.site.setup s.journal.end s.site.history c.plan.new.self.history (entries_of gr.committed.items) (entries_of c.make_place.new.group.committed.items) (noted_in gr.rows.items) (noted_in c.make_place.new.group.rows.items) c.args.worker c.args.ask taken Memory
-          (omega arith, refl) history (ap entries_of m.group.1) (ap noted_in m.group.0 ∙ sym (append-nil (noted_in gr.rows.items))),
+          (inr (c.in-Ok.ms, record { means = means; moment = refl; in_range = c.if-ms-gt-LATEST.false }, takes), refl) history (ap entries_of m.group.1) (ap noted_in m.group.0 ∙ sym (append-nil (noted_in gr.rows.items))),
     )

@@ -1,5 +1,6 @@
 use Rattle.std.proofs.Common.{◌≡◌, ◌-◌, None, arith, vec_len, vec_capacity, ap}
 use Rattle.site_store.specs.Standing.{in_order}
+use Rattle.site_store.proofs.Calling.{mend_calls}
 use Rattle.site_store.proofs.Mending.{disk_here, still_sound, mended_sound, mend_images, few_left, order_long, settle_images}
 use Rattle.site_store.proofs.store.Store.settle.Goals as goal
 
@@ -57,3 +58,15 @@ returns-in-Ok-clause-images g c =
     let s = c.args.self.now in
     settle_images g.D.Disk.moment g.D.Disk.image_since g.D.Disk.image g.met.D.Disk.only_now s.journal.disk c.mend.new.self.disk s.journal.end s.journal.pending s.site (in_order s.pending.items) (vec_capacity s.log - vec_len s.log) c.requires.sound
     (λ none. ap (λ j. j.disk) (c.in-Ok.ensures.settled none).1) c.mend.ensures.any_moment
+
+pub returns-in-Ok-clause-calls : goal.returns-in-Ok-clause-calls
+returns-in-Ok-clause-calls g c settled =
+    let s = c.args.self.now in
+    mend_calls (g.D.Disk.image s.journal.disk) s.journal.end s.journal.pending s.site (in_order s.pending.items) (vec_capacity s.log - vec_len s.log) c.requires.sound (g.D.Disk.disk_calls s.journal.disk) (g.D.Disk.disk_calls c.mend.new.self.disk)
+    (λ none. ap (λ j. g.D.Disk.disk_calls j.disk) (c.in-Ok.ensures.settled none).1) c.in-Ok.ensures.calls
+
+pub returns-then-is_err-clause-calls_err : goal.returns-then-is_err-clause-calls_err
+returns-then-is_err-clause-calls_err g c unsettled = c.mend.ensures.calls_err (disk_here c.mend.result c.in-Err.field-0 c.mend.ensures.or_disk c.in-Err.is)
+
+pub returns-else-is_err-clause-calls_err : goal.returns-else-is_err-clause-calls_err
+returns-else-is_err-clause-calls_err g c unsettled = c.mend.ensures.calls_err (disk_here c.mend.result c.in-Err.field-0 c.mend.ensures.or_disk c.in-Err.is)

@@ -10,6 +10,7 @@ use Rattle.site_store.specs.States.{settled}
 use Rattle.site_store.specs.Standing.{in_order, end_of}
 use Rattle.site_store.specs.Causes.{is_disk_fault}
 use Rattle.site_store.specs.declared.outcome.Outcome.TheVariants.{DiskFault, Memory}
+use Rattle.site_store.proofs.Calling.{unmended_calls, step_calls}
 use Rattle.site_store.proofs.Counting.{cause_is, unblamed, some_pending}
 use Rattle.site_store.proofs.Leading.{steps_mine, steps_grow}
 use Rattle.site_store.proofs.Mending.{sound_holds}
@@ -169,3 +170,24 @@ pub returns-in-Wanting-clause-at_return : goal.returns-in-Wanting-clause-at_retu
 returns-in-Wanting-clause-at_return g c d left =
     let u = c.settle.new.self in
     sound_holds (g.D.Disk.image u.journal.disk) u.journal.end u.journal.pending u.site (in_order u.pending.items) (vec_capacity u.log - vec_len u.log) d c.in-Wanting.ensures.sound left
+
+pub returns-in-Settled-clause-calls : goal.returns-in-Settled-clause-calls
+returns-in-Settled-clause-calls g c =
+    let s = c.args.self.now in
+    let t = c.settle.new.self in
+    let u = c.answer_one.new.self in
+    let a = c.answer_one.ensures.answers in
+    let grows = one_grows t.site.setup t.journal.end t.site.history c.args.worker c.args.ask a.0 c.answer_one.result (store_state u) a.3.0 a.3.2 in
+    step_calls (store_state s) (store_state t) (store_state u) (is_disk_fault c.answer_one.result (store_state u).pending) (g.D.Disk.disk_calls s.journal.disk) (g.D.Disk.disk_calls t.journal.disk) (g.D.Disk.disk_calls u.journal.disk) c.in-Settled.ensures.mends.2.0 (c.in-Settled.ensures.calls refl) grows.0 c.answer_one.ensures.calls
+
+pub returns-in-Failed-clause-calls : goal.returns-in-Failed-clause-calls
+returns-in-Failed-clause-calls g c =
+    let s = c.args.self.now in
+    let t = c.settle.new.self in
+    unmended_calls (store_state s) (store_state t) (is_disk_fault DiskFault (store_state t).pending) (g.D.Disk.disk_calls s.journal.disk) (g.D.Disk.disk_calls t.journal.disk) (none_order (in_order s.pending.items) (c.in-Failed.ensures.behind refl)) c.in-Failed.ensures.mends.2.0 (c.in-Failed.ensures.calls_err refl)
+
+pub returns-in-Wanting-clause-calls : goal.returns-in-Wanting-clause-calls
+returns-in-Wanting-clause-calls g c =
+    let s = c.args.self.now in
+    let t = c.settle.new.self in
+    unmended_calls (store_state s) (store_state t) (is_disk_fault Memory (store_state t).pending) (g.D.Disk.disk_calls s.journal.disk) (g.D.Disk.disk_calls t.journal.disk) (none_order (in_order s.pending.items) (c.in-Wanting.ensures.behind refl)) c.in-Wanting.ensures.mends.2.0 (c.in-Wanting.ensures.calls_err refl)

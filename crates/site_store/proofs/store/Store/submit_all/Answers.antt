@@ -11,6 +11,7 @@ use Rattle.site_store.specs.Open.{store_state, notes_of}
 use Rattle.site_store.specs.States.{settled}
 use Rattle.site_store.specs.Standing.{in_order, end_of}
 use Rattle.site_store.specs.Steps.{Steps}
+use Rattle.site_store.proofs.Calling.{unmended_calls, step_calls}
 use Rattle.site_store.proofs.Counting.{often_dones, often_fault, causes_after, causes_none, cause_is, failed_tell, behind_tell}
 use Rattle.site_store.proofs.Mending.{sound_holds}
 use Rattle.site_store.proofs.Leading.{steps_mine, steps_grow, answers_grow}
@@ -184,3 +185,25 @@ pub returns-in-Wanting-clause-at_return : goal.returns-in-Wanting-clause-at_retu
 returns-in-Wanting-clause-at_return g c d left =
     let u = c.settle.new.self in
     sound_holds (g.D.Disk.image u.journal.disk) u.journal.end u.journal.pending u.site (in_order u.pending.items) (vec_capacity u.log - vec_len u.log) d c.in-Wanting.ensures.sound left
+
+pub returns-in-Settled-clause-calls : goal.returns-in-Settled-clause-calls
+returns-in-Settled-clause-calls g c =
+    let s = c.args.self.now in
+    let t = c.settle.new.self in
+    let u = c.answer_all.new.self in
+    let a = c.answer_all.ensures.answers in
+    let outcomes = c.answer_all.new.outcomes.items in
+    let grows = answers_grow t.site.setup t.journal.end t.site.history c.args.worker c.args.asks.items a.0 outcomes (store_state u) a.3.0 a.3.2 in
+    step_calls (store_state s) (store_state t) (store_state u) (tells_disk_fault outcomes (store_state u).pending) (g.D.Disk.disk_calls s.journal.disk) (g.D.Disk.disk_calls t.journal.disk) (g.D.Disk.disk_calls u.journal.disk) c.in-Settled.ensures.mends.2.0 (c.in-Settled.ensures.calls refl) grows.0 c.answer_all.ensures.calls
+
+pub returns-in-Failed-clause-calls : goal.returns-in-Failed-clause-calls
+returns-in-Failed-clause-calls g c =
+    let s = c.args.self.now in
+    let t = c.settle.new.self in
+    unmended_calls (store_state s) (store_state t) (tells_disk_fault c.refuse_all.new.outcomes.items (store_state t).pending) (g.D.Disk.disk_calls s.journal.disk) (g.D.Disk.disk_calls t.journal.disk) (none_order (in_order s.pending.items) (c.in-Failed.ensures.behind refl)) c.in-Failed.ensures.mends.2.0 (c.in-Failed.ensures.calls_err refl)
+
+pub returns-in-Wanting-clause-calls : goal.returns-in-Wanting-clause-calls
+returns-in-Wanting-clause-calls g c =
+    let s = c.args.self.now in
+    let t = c.settle.new.self in
+    unmended_calls (store_state s) (store_state t) (tells_disk_fault c.refuse_all-in-Wanting.new.outcomes.items (store_state t).pending) (g.D.Disk.disk_calls s.journal.disk) (g.D.Disk.disk_calls t.journal.disk) (none_order (in_order s.pending.items) (c.in-Wanting.ensures.behind refl)) c.in-Wanting.ensures.mends.2.0 (c.in-Wanting.ensures.calls_err refl)

@@ -1,5 +1,0 @@
-use Rattle.site_store.specs.Asked.{AreOf}
-use Rattle.journal_tests.proofs.group_tests.amendments.Given as goal
-
-abbrev pub invariant-asks : goal.invariant-asks
-invariant-asks g l = AreOf l.setup l.asks.items

@@ -1,0 +1,149 @@
+//! What is kept of the move of an entry.
+ghost use Rattle.std.specs.Prelude.{◌≡◌, ◌∷◌, ◌<◌, ◌++◌, [], List, map, length, IfOk, None, if◌then◌else◌};
+ghost use Rattle.std.specs.List.{position};
+ghost use Rattle.epc_urn.specs.declared.epc.Epc.TheVariants.{Unit as Box};
+ghost use Rattle.deed_words.specs.Names.{Text};
+ghost use Rattle.deed_words.specs.Setups.{Setup};
+ghost use Rattle.deed_words.specs.Deeds.{batch_named, batch_with};
+ghost use Rattle.deed_words.specs.Happenings.{has_event, listed, moved_by, things_of};
+ghost use Rattle.deed_words.specs.Replies.{answer_to, reply_to};
+ghost use Rattle.deed_words.specs.Rules.{broken};
+ghost use Rattle.deed_words.specs.World.{inside};
+ghost use Rattle.deed_words.specs.declared.entry.Entry.{Entry as TheEntry};
+ghost use Rattle.deed_words.specs.declared.reply.Answer.TheVariants.{Made as MadeCode};
+ghost use Rattle.batch_book.specs.Batches.{is_called};
+ghost use Rattle.batch_book.specs.Content.{world_in, node_name, row_names, unit_codes};
+ghost use Rattle.pack_tree.specs.Packing.{HasRoom};
+ghost use Rattle.move_list.specs.Kept.{kept_of, unnamed_in};
+
+use deed_words::{Answer, BatchId, Deed, Epcs, ItemId, Reply, UnitId};
+use epc_urn::Epc;
+use gs1_keys::{Memory, Sscc};
+use move_list::Moved;
+use pack_tree::Node;
+use site_stores::Stores;
+use std::alloc::Global;
+
+/// The name of what stands at a node.
+#[tactic(auto, using(crate::proofs::Making::part_at))]
+fn name_of(stores: &Stores, node: Node) -> Epc
+    requires { HasRoom (length stores.now.content.rows) (length stores.now.content.units) node }
+    ensures { result ≡ node_name (row_names stores.now.content) (unit_codes stores.now.content) node }
+{
+    match node {
+        Node::Item(at) => {
+            let row = stores.item_at(ItemId(at));
+            Epc::Item(row.gtin, row.serial)
+        }
+        Node::Unit(at) => Epc::Unit(stores.unit_at(UnitId(at)).sscc),
+    }
+}
+
+/// What stands in the unit of the code, the one longest inside first.
+fn inside(alloc: Global, stores: &Stores, sscc: &Sscc) -> Result<Epcs, Memory>
+    ensures { IfOk result (λ names. names ≡ inside (world_in stores.now.content) sscc.now) }
+{
+    stores.tell_whole();
+    let mut names = Epcs::new(alloc);
+    let Some(unit) = stores.find_unit(sscc) else {
+        return Ok(names);
+    };
+    for node in stores.tree().children(unit) {
+        names.push(name_of(stores, node))?;
+    }
+    Ok(names)
+}
+
+/// The container that an answer tells.
+fn made(alloc: Global, answer: &Answer) -> Result<Epcs, Memory>
+    ensures { IfOk result (λ names. (sscc : Text) → answer.now ≡ MadeCode sscc → names ≡ Box sscc ∷ []) }
+{
+    let mut names = Epcs::new(alloc);
+    if let Answer::Made(sscc) = answer {
+        names.push(Epc::Unit(*sscc))?;
+    }
+    Ok(names)
+}
+
+/// The things that an accepted deed is about and doesn't name, where this is its answer.
+#[tactic(auto, unfolding(move_list::specs::Kept::unnamed_in, deed_words::specs::Happenings::things_of, deed_words::specs::Replies::answer_to))]
+fn unnamed(alloc: Global, stores: &Stores, deed: &Deed, answer: &Answer) -> Result<Epcs, Memory>
+    ensures { IfOk result (λ names. (site : Setup) (drawn : List Text) → answer.now ≡ answer_to site (world_in stores.now.content) deed.now drawn → names ≡ unnamed_in deed.now (things_of site (world_in stores.now.content) deed.now)) }
+{
+    match deed {
+        Deed::Container(..) => made(alloc, answer),
+        Deed::UnpackAll(unit) => inside(alloc, stores, unit),
+        _ => Ok(Epcs::new(alloc)),
+    }
+}
+
+/// The place of the batch of a unit.
+#[tactic(auto, unfolding(deed_words::specs::Deeds::batch_with))]
+fn batch_with(stores: &Stores, sscc: &Sscc) -> Option<BatchId>
+    ensures { result ≡ position (is_called (batch_with (world_in stores.now.content) sscc.now)) stores.now.content.batches }
+{
+    stores.tell_whole();
+    match stores.unit(sscc) {
+        Some(unit) => stores.find_batch(&unit.batch),
+        None => None,
+    }
+}
+
+/// The place of the batch of a deed that has an event.
+#[tactic(auto, unfolding(deed_words::specs::Deeds::batch_named, deed_words::specs::Deeds::unit_named, deed_words::specs::Happenings::has_event))]
+fn batch_changed(stores: &Stores, deed: &Deed) -> Option<BatchId>
+    ensures { result ≡ (if has_event deed.now then position (is_called (batch_named (world_in stores.now.content) deed.now)) stores.now.content.batches else None) }
+{
+    match deed {
+        Deed::Commission(name, _) => stores.find_batch(name),
+        Deed::Sample(name, _)
+        | Deed::Reject(name, _)
+        | Deed::Reinstate(name, _)
+        | Deed::Destroy(name, _)
+        | Deed::Decommission(name, _) => stores.find_batch(name),
+        Deed::Container(name, _) => stores.find_batch(name),
+        Deed::Pack(unit, _) | Deed::Unpack(unit, _) => batch_with(stores, unit),
+        Deed::UnpackAll(unit) | Deed::Void(unit) => batch_with(stores, unit),
+        _ => None,
+    }
+}
+
+/// What is kept of the move of an accepted entry at a place, if it has one: of an entry with this deed that gets this
+/// answer.
+fn accepted_move(
+    alloc: Global,
+    stores: &Stores,
+    place: u32,
+    deed: &Deed,
+    answer: &Answer,
+) -> Result<Option<Moved>, Memory>
+    ensures { IfOk result (λ moved. (site : Setup) (entry : TheEntry) → entry.deed ≡ deed.now → answer.now ≡ answer_to site (world_in stores.now.content) entry.deed entry.drawn
+        → map kept_of (moved_by site (world_in stores.now.content) place entry None) ≡ listed moved) }
+{
+    let Some(batch) = batch_changed(stores, deed) else {
+        return Ok(None);
+    };
+    let unnamed = unnamed(alloc, stores, deed, answer)?;
+    Ok(Some(Moved {
+        place,
+        batch,
+        unnamed,
+    }))
+}
+
+/// What is kept of the move of an entry at a place, if it has one: of an entry with this deed that gets this reply.
+pub(crate) fn kept_move(
+    alloc: Global,
+    stores: &Stores,
+    place: u32,
+    deed: &Deed,
+    reply: &Reply,
+) -> Result<Option<Moved>, Memory>
+    ensures { IfOk result (λ moved. (site : Setup) (entry : TheEntry) → entry.deed ≡ deed.now → reply.now ≡ reply_to site (world_in stores.now.content) entry
+        → map kept_of (moved_by site (world_in stores.now.content) place entry (broken site (world_in stores.now.content) entry.station entry.deed)) ≡ listed moved) }
+{
+    match reply {
+        Reply::Accepted(answer) => accepted_move(alloc, stores, place, deed, answer),
+        Reply::Refused(_) => Ok(None),
+    }
+}

@@ -1,2 +1,0 @@
-mod Stations
-mod Turning
