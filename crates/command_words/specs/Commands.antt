@@ -1,5 +1,5 @@
 -- The commands that words ask for.
-use Rattle.std.specs.Prelude.{◌&&◌, ℕ, List, Option, Some, None, nat_le, slice_get, bytes_eq, codes, if◌then◌else◌}
+use Rattle.std.specs.Prelude.{◌&&◌, ◌≤◌, ℕ, List, Option, Some, None, nat_le, slice_get, bytes_eq, codes, if◌then◌else◌}
 use Rattle.std.specs.Result.{result_ok}
 use Rattle.gs1_keys.specs.Keys.{text_of}
 use Rattle.numerals.specs.Numbers.{number_in}
@@ -104,3 +104,14 @@ named_at None second third fourth fifth = None
 -- The command of the words, if they are those of one.
 unfoldable pub command_of : List Text → Option Command
 command_of words = if are_words words then named_at (slice_get words 0) (slice_get words 1) (slice_get words 2) (slice_get words 3) (slice_get words 4) else None
+
+-- each number of a command is in its range
+abbrev pub IsRanged : Command → Type 0
+IsRanged Init = Unit {0}
+IsRanged Run = Unit {0}
+IsRanged (Report batch) = Unit {0}
+IsRanged (Export batch from count) = (1 ≤ from) × (1 ≤ count) × (count ≤ 10000)
+IsRanged Check = Unit {0}
+IsRanged (Log from count) = (1 ≤ from) × (1 ≤ count) × (count ≤ 10000)
+IsRanged (Simulate seed count) = (1 ≤ count) × (count ≤ 200000)
+IsRanged (Serve port workers connections) = (1 ≤ port) × (1 ≤ workers) × (workers ≤ 64) × (1 ≤ connections) × (connections ≤ 1000000)

@@ -1,6 +1,6 @@
 //! Commands, read from the texts of the command line.
 ghost use Rattle.std.specs.Prelude.{◌≡◌, ◌≤◌, IfOk, IfSome, map, option_map, string_bytes};
-ghost use Rattle.command_words.specs.Commands.{command_of, end_at, export_in, init_in, log_in, name_in, named, ranged, report_in, serve_in, simulate_in};
+ghost use Rattle.command_words.specs.Commands.{IsRanged, command_of, end_at, export_in, init_in, log_in, name_in, named, ranged, report_in, serve_in, simulate_in};
 
 use crate::command::Command;
 use crate::texts::texts_of;
@@ -33,7 +33,9 @@ fn number_between(word: &str, low: u32, high: u32) -> Option<u32>
 
 /// The command, where no word is left.
 fn ends(after: Option<&str>, command: Command) -> Option<Command>
-    ensures { result ≡ end_at (option_map (λ s. s.now) after.entry) command }
+    requires { IsRanged command }
+    ensures is { result ≡ end_at (option_map (λ s. s.now) after.entry) command }
+    ensures ranged { IfSome result IsRanged }
 {
     match after {
         None => Some(command),
@@ -42,7 +44,8 @@ fn ends(after: Option<&str>, command: Command) -> Option<Command>
 }
 
 fn init(site: Option<&str>, after: Option<&str>) -> Option<Command>
-    ensures { result ≡ init_in (option_map (λ s. s.now) site.entry) (option_map (λ s. s.now) after.entry) }
+    ensures is { result ≡ init_in (option_map (λ s. s.now) site.entry) (option_map (λ s. s.now) after.entry) }
+    ensures ranged { IfSome result IsRanged }
 {
     match site {
         Some(_) => ends(after, Command::Init),
@@ -52,7 +55,8 @@ fn init(site: Option<&str>, after: Option<&str>) -> Option<Command>
 
 #[tactic(auto, unfolding(crate::specs::Commands::report_in))]
 fn report(batch: Option<&str>, after: Option<&str>) -> Option<Command>
-    ensures { result ≡ report_in (option_map (λ s. s.now) batch.entry) (option_map (λ s. s.now) after.entry) }
+    ensures is { result ≡ report_in (option_map (λ s. s.now) batch.entry) (option_map (λ s. s.now) after.entry) }
+    ensures ranged { IfSome result IsRanged }
 {
     let batch = name(batch?)?;
     ends(after, Command::Report { batch })
@@ -65,7 +69,8 @@ fn export(
     count: Option<&str>,
     after: Option<&str>,
 ) -> Option<Command>
-    ensures { result ≡ export_in (option_map (λ s. s.now) batch.entry) (option_map (λ s. s.now) from.entry) (option_map (λ s. s.now) count.entry) (option_map (λ s. s.now) after.entry) }
+    ensures is { result ≡ export_in (option_map (λ s. s.now) batch.entry) (option_map (λ s. s.now) from.entry) (option_map (λ s. s.now) count.entry) (option_map (λ s. s.now) after.entry) }
+    ensures ranged { IfSome result IsRanged }
 {
     let batch = name(batch?)?;
     let from = number_between(from?, 1, u32::MAX)?;
@@ -75,7 +80,8 @@ fn export(
 
 #[tactic(auto, unfolding(crate::specs::Commands::log_in))]
 fn log(from: Option<&str>, count: Option<&str>, after: Option<&str>) -> Option<Command>
-    ensures { result ≡ log_in (option_map (λ s. s.now) from.entry) (option_map (λ s. s.now) count.entry) (option_map (λ s. s.now) after.entry) }
+    ensures is { result ≡ log_in (option_map (λ s. s.now) from.entry) (option_map (λ s. s.now) count.entry) (option_map (λ s. s.now) after.entry) }
+    ensures ranged { IfSome result IsRanged }
 {
     let from = number_between(from?, 1, u32::MAX)?;
     let count = number_between(count?, 1, 10_000)?;
@@ -84,7 +90,8 @@ fn log(from: Option<&str>, count: Option<&str>, after: Option<&str>) -> Option<C
 
 #[tactic(auto, unfolding(crate::specs::Commands::simulate_in))]
 fn simulate(seed: Option<&str>, count: Option<&str>, after: Option<&str>) -> Option<Command>
-    ensures { result ≡ simulate_in (option_map (λ s. s.now) seed.entry) (option_map (λ s. s.now) count.entry) (option_map (λ s. s.now) after.entry) }
+    ensures is { result ≡ simulate_in (option_map (λ s. s.now) seed.entry) (option_map (λ s. s.now) count.entry) (option_map (λ s. s.now) after.entry) }
+    ensures ranged { IfSome result IsRanged }
 {
     let seed = number_between(seed?, 0, u32::MAX)?;
     let count = number_between(count?, 1, 200_000)?;
@@ -98,7 +105,8 @@ fn serve(
     connections: Option<&str>,
     after: Option<&str>,
 ) -> Option<Command>
-    ensures { result ≡ serve_in (option_map (λ s. s.now) port.entry) (option_map (λ s. s.now) workers.entry) (option_map (λ s. s.now) connections.entry) (option_map (λ s. s.now) after.entry) }
+    ensures is { result ≡ serve_in (option_map (λ s. s.now) port.entry) (option_map (λ s. s.now) workers.entry) (option_map (λ s. s.now) connections.entry) (option_map (λ s. s.now) after.entry) }
+    ensures ranged { IfSome result IsRanged }
 {
     let port = number_between(port?, 1, 65_535)? as u16;
     let workers = number_between(workers?, 1, 64)? as u8;
@@ -122,7 +130,8 @@ fn command_named(
     fourth: Option<&str>,
     fifth: Option<&str>,
 ) -> Option<Command>
-    ensures { result ≡ named name.now (option_map (λ s. s.now) second.entry) (option_map (λ s. s.now) third.entry) (option_map (λ s. s.now) fourth.entry) (option_map (λ s. s.now) fifth.entry) }
+    ensures is { result ≡ named name.now (option_map (λ s. s.now) second.entry) (option_map (λ s. s.now) third.entry) (option_map (λ s. s.now) fourth.entry) (option_map (λ s. s.now) fifth.entry) }
+    ensures ranged { IfSome result IsRanged }
 {
     match name {
         "init" => init(second, third),
@@ -146,7 +155,8 @@ fn command_named(
 /// `Memory` where no memory was found.
 #[tactic(auto, unfolding(crate::specs::Commands::command_of))]
 pub fn read_command(alloc: Global, args: &[String]) -> Result<Option<Command>, Memory>
-    ensures { IfOk result (λ command. command ≡ command_of (map string_bytes args.entry.now)) }
+    ensures is { IfOk result (λ command. command ≡ command_of (map string_bytes args.entry.now)) }
+    ensures ranged { IfOk result (λ command. IfSome command IsRanged) }
 {
     let Some(texts) = texts_of(alloc, args)? else {
         return Ok(None);

@@ -1,25 +1,19 @@
 //! The commands over devices in memory: each test says the whole input and the whole output.
 
+use crate::program::{
+    E1, Failing, MOMENT, NOTHING, WORDS, args_of, calls_of_a_load, devices, expect_left, init,
+    joined, list, made, program, run, run_failing,
+};
 use crate::small_pieces::{DropsSink, DropsSource};
-use outside::{MemoryClock, MemoryDisk, MemorySink, MemorySource, MemoryWords};
+use outside::MemorySource;
 use site_console::{site_path, site_top};
-use site_store::Devices;
 use std::alloc::Global;
 use std::process::Abort;
 
-const E1: &[u8] =
-    b"[site]\ngln = \"0614141000012\"\nprefix = \"0614141\"\nextension = 1\nreference = 1\noffset = \"+00:00\"\n
-[[product]]\ngtin = \"00614141123452\"\nprefix_length = 7\nserial_length = 10\n
-[[product]]\ngtin = \"80614141123458\"\nprefix_length = 7\nserial_length = 6\n
-[[station]]\nname = \"P1\"\nrole = \"planner\"\n
-[[station]]\nname = \"L1\"\nrole = \"line\"\n
-[[station]]\nname = \"L2\"\nrole = \"line\"\n
-[[station]]\nname = \"Q1\"\nrole = \"quality\"\n";
-
-const ORDER: &[u8] =
+pub(crate) const ORDER: &[u8] =
     b"{\"station\":\"P1\",\"number\":1,\"deed\":{\"do\":\"order\",\"batch\":\"B6\",\"gtin\":\"80614141123458\",\"lot\":\"LOT6\",\"expiry\":\"2027-12-31\",\"quantity\":2,\"case\":2,\"pallet\":0}}\n";
 
-const DRAW: &[u8] =
+pub(crate) const DRAW: &[u8] =
     b"{\"station\":\"P1\",\"number\":2,\"deed\":{\"do\":\"draw\",\"batch\":\"B6\",\"count\":2}}\n";
 
 const DRAW_ONE: &[u8] =
@@ -31,138 +25,12 @@ const FIVE_AND_SEVEN: &[u8] = b"{\"ok\":true,\"serials\":[\"000005\",\"000007\"]
 
 const BAD_LINE: &[u8] = b"{\"fault\":\"BadLine\",\"ok\":false}\n";
 
-const MOMENT: u64 = 1_767_225_600_000;
-
-/// Words of which the first is past the last whole block, and the third stands for the serial of the second.
-const WORDS: [u64; 4] = [18_446_744_073_709_000_000, 5, 1_000_005, 7];
-
-/// What a run of the program left.
-#[derive(Drop)]
-struct Left {
-    status: u8,
-    put: Vec<u8>,
-    disk: Vec<u8>,
-}
-
-/// The calls of each device that fail, by their numbers.
-#[derive(Clone, Copy)]
-struct Failing<'a> {
-    takes: &'a [u64],
-    puts: &'a [u64],
-    disk: &'a [u64],
-    clock: &'a [u64],
-    words: &'a [u64],
-}
-
-const NOTHING: Failing = Failing {
-    takes: &[],
-    puts: &[],
-    disk: &[],
-    clock: &[],
-    words: &[],
-};
-
-fn list<T: Copy + Drop>(rt: &impl Abort, alloc: Global, items: &[T]) -> Vec<T> {
-    items.to_vec(alloc).expect(rt, "memory")
-}
-
-fn joined(rt: &impl Abort, alloc: Global, texts: &[&[u8]]) -> Vec<u8> {
-    let mut all = Vec::new(alloc);
-    for text in texts {
-        all.extend_from_slice(text).expect(rt, "memory");
-    }
-    all
-}
-
-fn args_of(rt: &impl Abort, alloc: Global, words: &[&str]) -> Vec<String> {
-    let mut args = Vec::new(alloc);
-    for word in words {
-        args.push(String::from_str(alloc, word).expect(rt, "memory"))
-            .expect(rt, "memory");
-    }
-    args
-}
-
-/// A disk of these bytes, a clock that stands at this moment, and random words.
-fn devices(
-    rt: &impl Abort,
-    alloc: Global,
-    disk: &[u8],
-    moment: u64,
-    draws: &[u64],
-    failing: Failing,
-) -> Devices<MemoryDisk, MemoryClock, MemoryWords> {
-    Devices {
-        disk: MemoryDisk::new(alloc, list(rt, alloc, disk), list(rt, alloc, failing.disk)),
-        clock: MemoryClock::new(
-            list(rt, alloc, &[moment; 8]),
-            list(rt, alloc, failing.clock),
-        ),
-        words: MemoryWords::new(list(rt, alloc, draws), list(rt, alloc, failing.words)),
-    }
-}
-
-/// The program with these words. Its site file and its input have the same bytes, of which it reads one.
-fn program(
-    rt: &impl Abort,
-    alloc: Global,
-    words: &[&str],
-    bytes: &[u8],
-    devices: Devices<MemoryDisk, MemoryClock, MemoryWords>,
-    failing: Failing,
-) -> Left {
-    let args = args_of(rt, alloc, words);
-    let mut site = MemorySource::new(list(rt, alloc, bytes), list(rt, alloc, failing.takes));
-    let mut input = MemorySource::new(list(rt, alloc, bytes), list(rt, alloc, failing.takes));
-    let mut out = MemorySink::new(alloc, list(rt, alloc, failing.puts));
-    let (status, devices) = site_top(alloc, &args, &mut site, &mut input, &mut out, devices);
-    Left {
-        status,
-        put: list(rt, alloc, out.bytes()),
-        disk: devices.disk.image(true),
-    }
-}
-
-/// `init` with this site file on this disk.
-fn init(rt: &impl Abort, alloc: Global, site: &[u8], disk: &[u8], failing: Failing) -> Left {
-    let devices = devices(rt, alloc, disk, MOMENT, &[], failing);
-    program(rt, alloc, &["init", "e1.toml"], site, devices, failing)
-}
-
-/// The journal of the example site.
-fn made(rt: &impl Abort, alloc: Global) -> Vec<u8> {
-    init(rt, alloc, E1, b"", NOTHING).disk
-}
-
-/// `run` over these lines on this disk, with these random words.
-fn run(rt: &impl Abort, alloc: Global, disk: &[u8], input: &[u8], draws: &[u64]) -> Left {
-    run_failing(rt, alloc, disk, input, draws, NOTHING)
-}
-
-fn run_failing(
-    rt: &impl Abort,
-    alloc: Global,
-    disk: &[u8],
-    input: &[u8],
-    draws: &[u64],
-    failing: Failing,
-) -> Left {
-    let devices = devices(rt, alloc, disk, MOMENT, draws, failing);
-    program(rt, alloc, &["run"], input, devices, failing)
-}
-
-/// The run ended so, and put this.
-fn expect_left(rt: &impl Abort, left: &Left, status: u8, put: &[u8]) {
-    assert!(rt; left.status == status);
-    assert!(rt; left.put.as_slice() == put);
-}
-
 #[test]
 fn a_site_file_becomes_a_journal_once(rt: HostRuntime) {
     let alloc = rt.alloc();
-    let first = init(&rt, alloc, E1, b"", NOTHING);
+    let first = init(&rt, alloc, E1.as_bytes(), b"", NOTHING);
     expect_left(&rt, &first, 0, b"ready\n");
-    let again = init(&rt, alloc, E1, &first.disk, NOTHING);
+    let again = init(&rt, alloc, E1.as_bytes(), &first.disk, NOTHING);
     expect_left(&rt, &again, 4, b"journal there\n");
     assert!(rt; again.disk == first.disk);
 }
@@ -286,23 +154,6 @@ fn a_fault_of_the_disk_is_mended(rt: HostRuntime) {
     expect_left(&rt, &again, 0, NEW);
 }
 
-/// How many calls of the disk a load makes: the least n of which none fails. Where one does, the program says so.
-fn calls_of_a_load(rt: &impl Abort, alloc: Global, disk: &[u8]) -> u64 {
-    for n in 1..64 {
-        let nth = [n];
-        let failing = Failing {
-            disk: &nth,
-            ..NOTHING
-        };
-        let left = run_failing(rt, alloc, disk, ORDER, &[], failing);
-        if left.status == 0 {
-            return n - 1;
-        }
-        expect_left(rt, &left, 9, b"disk fault\n");
-    }
-    0
-}
-
 #[test]
 fn faults_of_the_clock_and_of_words_are_told(rt: HostRuntime) {
     let alloc = rt.alloc();
@@ -398,7 +249,7 @@ fn faults_of_an_init_end_it(rt: HostRuntime) {
             disk,
             ..NOTHING
         };
-        let left = init(&rt, alloc, E1, b"", failing);
+        let left = init(&rt, alloc, E1.as_bytes(), b"", failing);
         expect_left(&rt, &left, status, put);
         assert!(rt; left.disk.is_empty() == (status != 8));
     }
@@ -422,7 +273,7 @@ fn site_files_that_are_no_site_are_told(rt: HostRuntime) {
     let empty = init(&rt, alloc, b"", b"", NOTHING);
     expect_left(&rt, &empty, 3, b"site unreadable: 2\n");
     assert!(rt; empty.disk.is_empty());
-    let mut long = list(&rt, alloc, E1);
+    let mut long = list(&rt, alloc, E1.as_bytes());
     long.resize(1_048_577, b'\n').expect(&rt, "memory");
     let long = init(&rt, alloc, &long, b"", NOTHING);
     expect_left(&rt, &long, 3, b"site unreadable: 1\n");
@@ -438,9 +289,16 @@ fn other_words_are_refused(rt: HostRuntime) {
         &["init", "-x"],
         &["init", ""],
         &["RUN"],
-        // commands that the program doesn't have yet
-        &["report", "B6"],
-        &["sim", "7", "1"],
+        &["report"],
+        &["export", "B6", "0", "1"],
+        &["check", "B6"],
+        &["log", "1"],
+        &["sim", "7"],
+        &["sim", "7", "0"],
+        &["sim", "+7", "10"],
+        &["sim", "--", "7", "10"],
+        // a command that the program doesn't have yet
+        &["serve", "8080", "1", "1"],
         &[],
     ] {
         let devices = devices(&rt, alloc, b"", MOMENT, &[], NOTHING);

@@ -1,8 +1,8 @@
 -- The JSON of events and documents (a profile after EPCIS 2.0 and CBV 2.0).
-use Rattle.std.specs.Prelude.{◌≡◌, ◌≤◌, ℕ, Bool, true, false, List, [], ◌∷◌, slice_index, Option, None, Some, is_some, codes, if◌then◌else◌, ◌==◌, All}
+use Rattle.std.specs.Prelude.{◌≡◌, ◌≤◌, ℕ, Bool, true, false, List, [], ◌∷◌, ◌++◌, slice_index, Option, None, Some, is_some, codes, if◌then◌else◌, ◌==◌, All}
 use Rattle.std.specs.Option.{ForSome}
 use Rattle.serde_json.specs.Data.{Data, string, array, object, Items, no_items, item, Members, no_members, member, put}
-use Rattle.serde_json.specs.Written.{compact_text}
+use Rattle.serde_json.specs.Written.{compact_text, comma_if}
 use Rattle.epc_urn.specs.declared.epc.Epc.{Epc}
 use Rattle.epc_urn.specs.declared.epc.Epc.TheVariants.{Unit as Box}
 use Rattle.epc_urn.specs.Urns.{urn_text, sgln_text, IsPrefixLength}
@@ -130,6 +130,24 @@ document_data events created =
 
 unfoldable pub document_text : List Event → ℕ → Text
 document_text events created = compact_text (document_data events created)
+
+-- ---- documents in parts
+
+-- what stands in front of the events of a document that was created at that moment
+unfoldable pub document_front : ℕ → Text
+document_front created =
+    codes "{\"@context\":[\"https://ref.gs1.org/standards/epcis/2.0.0/epcis-context.jsonld\"],\"creationDate\":"
+    ++ compact_text (string (moment_text created))
+    ++ codes ",\"epcisBody\":{\"eventList\":["
+
+-- the texts of events, with a comma in front of each, and of the first where another one stands before
+unfoldable pub events_text : Bool → List Event → Text
+events_text later [] = []
+events_text later (event ∷ events) = comma_if later ++ compact_text (event_data event) ++ events_text true events
+
+-- what stands behind the events
+abbrev pub document_back : Text
+document_back = codes "]},\"schemaVersion\":\"2.0\",\"type\":\"EPCISDocument\"}"
 
 -- ---- what is proper
 

@@ -12,11 +12,12 @@ ghost use Rattle.deed_words.specs.Proper.{IsProperEntry};
 ghost use Rattle.deed_words.specs.World.{World};
 ghost use Rattle.json.specs.Print.{quoted};
 ghost use Rattle.serde_json.specs.Written.{compact_text};
+ghost use Rattle.epcis_events.specs.declared.event.Event.{Event};
 ghost use Rattle.epcis_events.specs.declared.event.Action.TheVariants.{Add};
 ghost use Rattle.epcis_events.specs.declared.event.Step.TheVariants.{Commissioning};
 ghost use Rattle.epcis_events.specs.declared.event.Disposition.TheVariants.{Active};
 ghost use Rattle.epcis_events.specs.Moment.{moment_text};
-ghost use Rattle.epcis_events.specs.Documents.{event_data, ilmd_data, IsProperEvent};
+ghost use Rattle.epcis_events.specs.Documents.{event_data, ilmd_data, document_text, document_front, events_text, document_back, IsProperEvent};
 ghost use Rattle.deed_words.specs.Happenings.{has_event, moves, moves_of, moved_by};
 ghost use Rattle.deed_words.specs.Kept.{pairs_in};
 ghost use Rattle.deed_words.specs.History.{IsLawful, world_of};
@@ -55,6 +56,11 @@ pub fn moves_have_events()
 pub fn events_are_proper()
     ensures all { (site : Setup) (history : List Entry) → IsProper site → IsLawful site history → All IsProperEntry history → All IsProperEvent (events site history) }
     ensures batch { (site : Setup) (history : List Entry) (name : Text) → IsProper site → IsLawful site history → All IsProperEntry history → All IsProperEvent (events_of site history name) }
+{}
+
+/// A document is what stands in front of its events, their texts one behind the other, and what stands behind them.
+pub fn documents_have_parts()
+    ensures { (events : List Event) (created : ℕ) → document_text events created ≡ document_front created ++ events_text false events ++ document_back }
 {}
 
 /// The text of an event, byte for byte: the making of a case.

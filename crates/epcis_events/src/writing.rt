@@ -8,7 +8,7 @@ ghost use Rattle.epc_urn.specs.Urns.{IsPrefixLength};
 ghost use Rattle.gs1_element.specs.Dates.{is_expiry};
 ghost use Rattle.deed_words.specs.Setups.{is_offset};
 ghost use Rattle.epcis_events.specs.Moment.{moment_text};
-ghost use Rattle.epcis_events.specs.Documents.{action_word, step_word, disposition_word, type_word, list_word, ilmd_data, ilmd_told, parent_told, doing_told, where_told, when_told, list_told, event_data, events_data, document_text, with_told, IsInTime, IsProperEvent};
+ghost use Rattle.epcis_events.specs.Documents.{action_word, step_word, disposition_word, type_word, list_word, ilmd_data, ilmd_told, parent_told, doing_told, where_told, when_told, list_told, event_data, events_data, document_text, document_front, document_back, with_told, IsInTime, IsProperEvent};
 
 use crate::date::date_text;
 use crate::texts::{ascii_value, moment_value, place_value, text_value, urn_value, urns_value};
@@ -268,6 +268,70 @@ fn push_events(alloc: Global, out: &mut Vec<u8>, events: &[Event]) -> Result<(),
     Ok(())
 }
 
+/// What stands in front of the events of a document.
+#[tactic(auto, unfolding(crate::specs::Documents::document_front))]
+fn front_bytes(alloc: Global, created: u64) -> Result<Vec<u8>, AllocError>
+    requires { IsInTime created }
+    ensures { IfOk result (λ text. text.items ≡ document_front created) }
+{
+    let mut out = Vec::new(alloc);
+    out.extend_from_slice(
+        b"{\"@context\":[\"https://ref.gs1.org/standards/epcis/2.0.0/epcis-context.jsonld\"],\"creationDate\":",
+    )?;
+    push_moment(alloc, &mut out, created)?;
+    out.extend_from_slice(b",\"epcisBody\":{\"eventList\":[")?;
+    Ok(out)
+}
+
+/// An event, behind a comma where another one stands before it.
+fn event_bytes(alloc: Global, event: &Event, later: bool) -> Result<Vec<u8>, AllocError>
+    requires { IsProperEvent event.now }
+    ensures { IfOk result (λ text. text.items ≡ comma_if later ++ compact_text (event_data event.now)) }
+{
+    let mut out = Vec::new(alloc);
+    push_comma_if(&mut out, later)?;
+    push_event(alloc, &mut out, event)?;
+    Ok(out)
+}
+
+/// Opens a document that was created at that moment: its text up to the first event. A document may be put in parts,
+/// so that its events needn't stand in memory together: this, each event, and what closes it.
+///
+/// # Errors
+///
+/// `Memory` where no memory was found.
+pub fn open_document(alloc: Global, created: u64) -> Result<Vec<u8>, Memory>
+    requires { IsInTime created }
+    ensures { IfOk result (λ text. text.items ≡ document_front created) }
+{
+    match front_bytes(alloc, created) {
+        Ok(text) => Ok(text),
+        Err(_) => Err(Memory),
+    }
+}
+
+/// The text of an event in a document, behind a comma where another event stands before it.
+///
+/// # Errors
+///
+/// `Memory` where no memory was found.
+pub fn event_text(alloc: Global, event: &Event, later: bool) -> Result<Vec<u8>, Memory>
+    requires { IsProperEvent event.now }
+    ensures { IfOk result (λ text. text.items ≡ comma_if later ++ compact_text (event_data event.now)) }
+{
+    match event_bytes(alloc, event, later) {
+        Ok(text) => Ok(text),
+        Err(_) => Err(Memory),
+    }
+}
+
+/// Closes a document: its text behind the last event.
+pub fn close_document() -> &'static [u8]
+    ensures { result.now ≡ document_back }
+{
+    b"]},\"schemaVersion\":\"2.0\",\"type\":\"EPCISDocument\"}"
+}
+
 /// The document of some events, which was created at that moment: its exact text.
 pub fn document(alloc: Global, events: &[Event], created: u64) -> Result<Vec<u8>, Memory>
     requires events { All IsProperEvent events.now }
@@ -281,18 +345,12 @@ pub fn document(alloc: Global, events: &[Event], created: u64) -> Result<Vec<u8>
 }
 
 /// The same, piece by piece.
-#[tactic(auto, using(crate::proofs::Pieces::document_is))]
 fn document_bytes(alloc: Global, events: &[Event], created: u64) -> Result<Vec<u8>, AllocError>
     requires events { All IsProperEvent events.now }
     requires created { IsInTime created }
     ensures { IfOk result (λ text. text.items ≡ document_text events.now created) }
 {
-    let mut out = Vec::new(alloc);
-    out.extend_from_slice(
-        b"{\"@context\":[\"https://ref.gs1.org/standards/epcis/2.0.0/epcis-context.jsonld\"],\"creationDate\":",
-    )?;
-    push_moment(alloc, &mut out, created)?;
-    out.extend_from_slice(b",\"epcisBody\":{\"eventList\":[")?;
+    let mut out = front_bytes(alloc, created)?;
     push_events(alloc, &mut out, events)?;
     out.extend_from_slice(b"},\"schemaVersion\":\"2.0\",\"type\":\"EPCISDocument\"}")?;
     Ok(out)

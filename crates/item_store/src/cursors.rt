@@ -16,13 +16,12 @@ use std::alloc::Global;
 /// How many batches have a cursor.
 const BATCHES: usize = 4096;
 
-/// Makes the cursors, each past all rows, where there are no rows yet.
+/// Makes the cursors, each past all rows, where there are no rows and no cursors yet.
 pub(crate) fn ready_cursors(cursors: &mut Vec<u32>, rows: &[ItemRow]) -> Result<(), Memory>
     requires { AreBehind rows.now cursors.old.items }
     ensures { AreBehind rows.now cursors.new.items }
 {
-    if rows.is_empty() {
-        cursors.clear();
+    if rows.is_empty() && cursors.is_empty() {
         cursors.resize(BATCHES, u32::MAX)?;
     }
     Ok(())

@@ -54,7 +54,7 @@ pub(crate) fn lower(cells: &mut Vec<u32>, at: usize)
     }
 }
 
-/// Makes so many cells, each 0, where there are no rows yet.
+/// Makes so many cells, each 0, where there are no rows and no cells yet.
 pub(crate) fn ready_cells(
     cells: &mut Vec<u32>,
     rows: &[ItemRow],
@@ -62,8 +62,7 @@ pub(crate) fn ready_cells(
 ) -> Result<(), Memory>
     ensures { (cell : _) → IsTally cell rows.now cells.old.items → IsTally cell rows.now cells.new.items }
 {
-    if rows.is_empty() {
-        cells.clear();
+    if rows.is_empty() && cells.is_empty() {
         cells.resize(count, 0)?;
     }
     Ok(())

@@ -1,6 +1,7 @@
 //! Packsite: the serialisation server of a packaging site. `packsite init SITE` makes the journal of a site file, and
 //! `packsite run` answers each line of standard input, a request of a station in JSON, with one line on standard output.
-//! The journal is `packsite.journal` in the working folder.
+//! `packsite report BATCH`, `export BATCH FROM COUNT`, `check` and `log FROM COUNT` tell what the journal holds, and
+//! `packsite sim SEED COUNT` makes one of its own. The journal is `packsite.journal` in the working folder.
 #![tactic(auto)]
 
 mod telling;

@@ -29,6 +29,7 @@ pub fn tell<R: Eprint + Files<File = File>>(rt: &R, status: u8, args: &[String])
         8 => say(rt, "standard output", "can't be written"),
         9 if is_in_use(rt) => say(rt, JOURNAL, "is in use by another packsite"),
         9 => say(rt, JOURNAL, "can't be read or written"),
+        10 => say(rt, named_batch(args), "is no batch of the site"),
         11 => say(rt, "the program", "needs more memory than there is"),
         13 => say(
             rt,
@@ -50,7 +51,7 @@ fn tell_words<R: Eprint>(rt: &R, args: &[String]) {
         return say(
             rt,
             "a command",
-            "is missing: there are `init SITE` and `run`",
+            "is missing: there are `init SITE`, `run`, `report BATCH`, `export BATCH FROM COUNT`, `check`, `log FROM COUNT` and `sim SEED COUNT`",
         );
     };
     match word.as_str() {
@@ -60,7 +61,28 @@ fn tell_words<R: Eprint>(rt: &R, args: &[String]) {
             "takes one word more: a site file, whose name doesn't begin with `-`",
         ),
         "run" => say(rt, "`run`", "takes no further word"),
-        word => say(rt, word, "is no command: there are `init SITE` and `run`"),
+        "report" => say(rt, "`report`", "takes one word more: the name of a batch"),
+        "export" => say(
+            rt,
+            "`export`",
+            "takes three words more: the name of a batch, the number of the first event, and how many, up to 10000",
+        ),
+        "check" => say(rt, "`check`", "takes no further word"),
+        "log" => say(
+            rt,
+            "`log`",
+            "takes two words more: the number of the first entry, and how many, up to 10000",
+        ),
+        "sim" => say(
+            rt,
+            "`sim`",
+            "takes two words more: a seed, and how many serials, up to 200000",
+        ),
+        word => say(
+            rt,
+            word,
+            "is no command: `packsite` alone says which there are",
+        ),
     }
 }
 
@@ -69,6 +91,14 @@ fn named_file(args: &[String]) -> &str {
     match args.get(1) {
         Some(site) => site.as_str(),
         None => "standard input",
+    }
+}
+
+/// The batch that the command names.
+fn named_batch(args: &[String]) -> &str {
+    match args.get(1) {
+        Some(batch) => batch.as_str(),
+        None => "the batch",
     }
 }
 

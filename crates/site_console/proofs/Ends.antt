@@ -10,7 +10,7 @@ use Rattle.site_store.specs.declared.load.StoreFault.TheVariants as store
 use Rattle.site_store.specs.Loads.{is_disk}
 use Rattle.site_store.specs.Readings.{ReadsAs, Nothing, Bad}
 use Rattle.site_console.specs.declared.ending.Ending.{Ending}
-use Rattle.site_console.specs.declared.ending.Ending.TheVariants.{Done, BadWords, Unreadable, JournalThere, NoJournal, JournalBad, ReadFault, WriteFault, DiskFault, NoMemory, TooLong}
+use Rattle.site_console.specs.declared.ending.Ending.TheVariants.{Done, BadWords, Unreadable, JournalThere, NoJournal, JournalBad, ReadFault, WriteFault, DiskFault, UnknownBatch, NoMemory, TooLong}
 use Rattle.site_console.specs.declared.fault.Fault.{Fault}
 use Rattle.site_console.specs.declared.fault.Fault.TheVariants.{Read, Write, Memory, InputTooLong}
 use Rattle.site_console.specs.declared.site_file.SiteFault.{SiteFault}
@@ -101,6 +101,7 @@ ready_ends g site old new NoJournal put is made = absurd is
 ready_ends g site old new (JournalBad place) put is made = absurd is
 ready_ends g site old new ReadFault put is made = absurd is
 ready_ends g site old new DiskFault put is made = absurd is
+ready_ends g site old new UnknownBatch put is made = absurd is
 ready_ends g site old new NoMemory put is made = absurd is
 ready_ends g site old new TooLong put is made = absurd is
 
@@ -114,6 +115,7 @@ ready_disk NoJournal put before now is same = absurd is
 ready_disk (JournalBad place) put before now is same = absurd is
 ready_disk ReadFault put before now is same = absurd is
 ready_disk DiskFault put before now is same = absurd is
+ready_disk UnknownBatch put before now is same = absurd is
 ready_disk NoMemory put before now is same = absurd is
 ready_disk TooLong put before now is same = absurd is
 
@@ -123,6 +125,7 @@ makes_no_read g site old new Done put is = refl
 makes_no_read g site old new WriteFault put is = refl
 makes_no_read g site old new JournalThere put is = refl
 makes_no_read g site old new DiskFault put is = refl
+makes_no_read g site old new UnknownBatch put is = refl
 makes_no_read g site old new NoMemory put is = refl
 makes_no_read g site old new BadWords put is = refl
 makes_no_read g site old new (Unreadable kind) put is = refl

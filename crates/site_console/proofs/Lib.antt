@@ -18,3 +18,12 @@ mod Filed
 mod Statuses
 mod Completing
 mod Returned
+mod Saying
+mod Ranges
+mod LogLines
+mod Reported
+mod Exported
+mod Looking
+mod RefusalNames
+mod SimEnded
+mod LookDone

@@ -13,7 +13,7 @@ use Rattle.site_console.specs.Told.{Stream}
 abbrev pub devices_of : {D C W : Type 0} → D → C → W → Devices D C W
 devices_of d c w = record { disk = d; clock = c; words = w }
 
-same_devices : {D C W : Type 0} (new : Devices D C W) (d : D) (c : C) (w : W) → new.disk ≡ d → new.clock ≡ c → new.words ≡ w → devices_of d c w ≡ new
+pub same_devices : {D C W : Type 0} (new : Devices D C W) (d : D) (c : C) (w : W) → new.disk ≡ d → new.clock ≡ c → new.words ≡ w → devices_of d c w ≡ new
 same_devices {D} {C} {W} new d c w one two three =
     subst (λ (z : W). devices_of d c z ≡ new) three (subst (λ (y : C). devices_of d y new.words ≡ new) two (subst (λ (x : D). devices_of x new.clock new.words ≡ new) one refl))
 

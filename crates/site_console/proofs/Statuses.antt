@@ -7,7 +7,7 @@ use Rattle.site_store.specs.declared.store.Devices.{Devices}
 use Rattle.command_words.specs.declared.command.Command.{Command}
 use Rattle.command_words.specs.declared.command.Command.TheVariants.{Init, Run, Report, Export, Check, Log, Simulate, Serve}
 use Rattle.site_console.specs.declared.ending.Ending.{Ending}
-use Rattle.site_console.specs.declared.ending.Ending.TheVariants.{Done, BadWords, Unreadable, JournalThere, NoJournal, JournalBad, ReadFault, WriteFault, DiskFault, NoMemory, TooLong}
+use Rattle.site_console.specs.declared.ending.Ending.TheVariants.{Done, BadWords, Unreadable, JournalThere, NoJournal, JournalBad, ReadFault, WriteFault, DiskFault, UnknownBatch, NoMemory, TooLong}
 use Rattle.site_console.specs.declared.fault.Fault.{Fault}
 use Rattle.site_console.specs.declared.fault.Fault.TheVariants.{Read, Write, Memory, InputTooLong}
 use Rattle.site_console.specs.Commands.{is_refused}
@@ -17,6 +17,9 @@ use Rattle.site_console.specs.Inits.{InitSession, Unread, Faulty, Opens}
 use Rattle.site_console.specs.Sessions.{RunSession, NotLoaded, RanFrom}
 use Rattle.site_console.specs.Told.{Stream}
 use Rattle.site_console.specs.Top.{IsStatus, Obeys, Session}
+use Rattle.site_console.specs.declared.look.Look.TheVariants as look
+use Rattle.site_console.proofs.Looking.{look_bad}
+use Rattle.site_console.proofs.SimEnded.{sim_bad}
 
 one : (ending : Ending) → IsStatus (status_of ending)
 one Done = inl refl
@@ -28,8 +31,9 @@ one (JournalBad place) = inr (inr (inr (inr (inr (inl refl)))))
 one ReadFault = inr (inr (inr (inr (inr (inr (inl refl))))))
 one WriteFault = inr (inr (inr (inr (inr (inr (inr (inl refl)))))))
 one DiskFault = inr (inr (inr (inr (inr (inr (inr (inr (inl refl))))))))
-one NoMemory = inr (inr (inr (inr (inr (inr (inr (inr (inr (inl refl)))))))))
-one TooLong = inr (inr (inr (inr (inr (inr (inr (inr (inr (inr refl)))))))))
+one UnknownBatch = inr (inr (inr (inr (inr (inr (inr (inr (inr (inl refl)))))))))
+one NoMemory = inr (inr (inr (inr (inr (inr (inr (inr (inr (inr (inl refl))))))))))
+one TooLong = inr (inr (inr (inr (inr (inr (inr (inr (inr (inr (inr refl))))))))))
 
 pub is_status : (ending : Ending) (n : ℕ) → n ≡ status_of ending → IsStatus n
 is_status ending n e = subst IsStatus (sym e) (one ending)
@@ -45,6 +49,7 @@ two (JournalBad place) e = absurd cc
 two ReadFault e = absurd cc
 two WriteFault e = absurd cc
 two DiskFault e = absurd cc
+two UnknownBatch e = absurd cc
 two NoMemory e = absurd cc
 two TooLong e = absurd cc
 
@@ -81,11 +86,11 @@ module _ {D C W : Type 0} (g : disk.Ghosts D) (k : clock.Ghosts C) (w : words.Gh
   session_refused None old new s s' i i' o o' ending session e = refl
   session_refused (Some Init) old new s s' i i' o o' ending session e = absurd (init_bad old new s s' o o' ending e session.1)
   session_refused (Some Run) old new s s' i i' o o' ending session e = absurd (run_bad old new i i' o o' ending e session.1)
-  session_refused (Some (Report batch)) old new s s' i i' o o' ending session e = refl
-  session_refused (Some (Export batch from count)) old new s s' i i' o o' ending session e = refl
-  session_refused (Some Check) old new s s' i i' o o' ending session e = refl
-  session_refused (Some (Log from count)) old new s s' i i' o o' ending session e = refl
-  session_refused (Some (Simulate seed count)) old new s s' i i' o o' ending session e = refl
+  session_refused (Some (Report batch)) old new s s' i i' o o' ending session e = absurd (look_bad g (look.Report batch) old new i o o' ending e session.2)
+  session_refused (Some (Export batch from count)) old new s s' i i' o o' ending session e = absurd (look_bad g (look.Export batch from count) old new i o o' ending e session.2)
+  session_refused (Some Check) old new s s' i i' o o' ending session e = absurd (look_bad g look.Check old new i o o' ending e session.2)
+  session_refused (Some (Log from count)) old new s s' i i' o o' ending session e = absurd (look_bad g (look.Log from count) old new i o o' ending e session.2)
+  session_refused (Some (Simulate seed count)) old new s s' i i' o o' ending session e = absurd (sim_bad g seed count old new o o' ending e session.2)
   session_refused (Some (Serve port workers connections)) old new s s' i i' o o' ending session e = refl
 
   pub bad_words : (command : Option Command) (old new : Devices D C W) (s s' i i' o o' : Stream) (ending : Ending) (n : ℕ) → n ≡ status_of ending → Obeys g k w command old new s s' i i' o o' ending → n ≡ 2 → is_refused command ≡ true
@@ -97,11 +102,11 @@ module _ {D C W : Type 0} (g : disk.Ghosts D) (k : clock.Ghosts C) (w : words.Gh
   session_ends None old new s s' i i' o o' ending session e = session.0
   session_ends (Some Init) old new s s' i i' o o' ending session e = absurd cc
   session_ends (Some Run) old new s s' i i' o o' ending session e = absurd cc
-  session_ends (Some (Report batch)) old new s s' i i' o o' ending session e = session.0
-  session_ends (Some (Export batch from count)) old new s s' i i' o o' ending session e = session.0
-  session_ends (Some Check) old new s s' i i' o o' ending session e = session.0
-  session_ends (Some (Log from count)) old new s s' i i' o o' ending session e = session.0
-  session_ends (Some (Simulate seed count)) old new s s' i i' o o' ending session e = session.0
+  session_ends (Some (Report batch)) old new s s' i i' o o' ending session e = absurd cc
+  session_ends (Some (Export batch from count)) old new s s' i i' o o' ending session e = absurd cc
+  session_ends (Some Check) old new s s' i i' o o' ending session e = absurd cc
+  session_ends (Some (Log from count)) old new s s' i i' o o' ending session e = absurd cc
+  session_ends (Some (Simulate seed count)) old new s s' i i' o o' ending session e = absurd cc
   session_ends (Some (Serve port workers connections)) old new s s' i i' o o' ending session e = session.0
 
   pub refused_ends : (command : Option Command) (old new : Devices D C W) (s s' i i' o o' : Stream) (ending : Ending) (n : ℕ) → n ≡ status_of ending → Obeys g k w command old new s s' i i' o o' ending → is_refused command ≡ true → (n ≡ 2) ⊎ (n ≡ 11)

@@ -3,15 +3,15 @@ use Rattle.std.specs.Prelude.{Bool, true, false, not, Option, Some, None}
 use Rattle.command_words.specs.declared.command.Command.{Command}
 use Rattle.command_words.specs.declared.command.Command.TheVariants.{Init, Run, Report, Export, Check, Log, Simulate, Serve}
 
--- `init` and `run`, and not yet `report`, `export`, `check`, `log`, `sim` and `serve`
+-- all but `serve`
 abbrev pub is_built : Command → Bool
 is_built Init = true
 is_built Run = true
-is_built (Report batch) = false
-is_built (Export batch from count) = false
-is_built Check = false
-is_built (Log from count) = false
-is_built (Simulate seed count) = false
+is_built (Report batch) = true
+is_built (Export batch from count) = true
+is_built Check = true
+is_built (Log from count) = true
+is_built (Simulate seed count) = true
 is_built (Serve port workers connections) = false
 
 -- there is no command, or one that the program doesn't have

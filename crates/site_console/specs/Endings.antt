@@ -3,11 +3,13 @@ use Rattle.std.specs.Prelude.{◌≡◌, ◌⊎◌, ℕ, Bool, true, false, List
 use Rattle.outside.specs.Causes.{Rose}
 use Rattle.site_store.specs.declared.load.StoreFault.{StoreFault}
 use Rattle.site_store.specs.declared.load.StoreFault.TheVariants as store
+use Rattle.site_sim.specs.declared.fault.SimFault.{SimFault}
+use Rattle.site_sim.specs.declared.fault.SimFault.TheVariants as sim
 use Rattle.site_console.specs.Newline.{newline}
 use Rattle.site_console.specs.declared.fault.Fault.{Fault}
 use Rattle.site_console.specs.declared.fault.Fault.TheVariants as run
 use Rattle.site_console.specs.declared.ending.Ending.{Ending}
-use Rattle.site_console.specs.declared.ending.Ending.TheVariants.{Done, BadWords, Unreadable, JournalThere, NoJournal, JournalBad, ReadFault, WriteFault, DiskFault, NoMemory, TooLong}
+use Rattle.site_console.specs.declared.ending.Ending.TheVariants.{Done, BadWords, Unreadable, JournalThere, NoJournal, JournalBad, ReadFault, WriteFault, DiskFault, UnknownBatch, NoMemory, TooLong}
 
 abbrev pub status_of : Ending → ℕ
 status_of Done = 0
@@ -19,6 +21,7 @@ status_of (JournalBad place) = 6
 status_of ReadFault = 7
 status_of WriteFault = 8
 status_of DiskFault = 9
+status_of UnknownBatch = 10
 status_of NoMemory = 11
 status_of TooLong = 13
 
@@ -33,6 +36,7 @@ fault_line NoJournal = codes "no journal" ++ newline ∷ []
 fault_line (JournalBad place) = codes "journal bad at " ++ decimal place ++ newline ∷ []
 fault_line ReadFault = codes "input fault" ++ newline ∷ []
 fault_line DiskFault = codes "disk fault" ++ newline ∷ []
+fault_line UnknownBatch = codes "unknown batch" ++ newline ∷ []
 fault_line NoMemory = codes "want of memory" ++ newline ∷ []
 fault_line TooLong = codes "input too long" ++ newline ∷ []
 
@@ -57,6 +61,12 @@ ending_of_store store.JournalThere = JournalThere
 ending_of_store store.NoJournal = NoJournal
 ending_of_store (store.Bad place) = JournalBad place
 ending_of_store store.Memory = NoMemory
+
+-- how a simulation ends that has no line
+abbrev pub ending_of_sim : SimFault → Ending
+ending_of_sim sim.JournalThere = JournalThere
+ending_of_sim sim.Disk = DiskFault
+ending_of_sim sim.Memory = NoMemory
 
 abbrev pub is_read_ending : Ending → Bool
 is_read_ending ReadFault = true

@@ -21,11 +21,14 @@ use Rattle.site_console.specs.Told.{Stream}
 abbrev pub ready : List ℕ
 ready = codes "ready" ++ newline ∷ []
 
--- all of it was put, or not all
+-- all of a text was put, or not all
+abbrev pub IsTextPut : List ℕ → Ending → List ℕ → Type 0
+IsTextPut text Done put = put ≡ text
+IsTextPut text WriteFault put = IsPart put text
+IsTextPut text ending put = ⊥
+
 abbrev pub IsReadyPut : Ending → List ℕ → Type 0
-IsReadyPut Done put = put ≡ ready
-IsReadyPut WriteFault put = IsPart put ready
-IsReadyPut ending put = ⊥
+IsReadyPut = IsTextPut ready
 
 -- the journal of the setup, without entries, is on the disk
 pub record IsMade {D : Type 0} (g : disk.Ghosts D) (site : Setup) (disk_old disk_new : D) : Type 0 where

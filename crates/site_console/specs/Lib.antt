@@ -16,4 +16,8 @@ pub mod Closing
 pub mod Promises
 pub mod Sessions
 pub mod Inits
+pub mod Logs
+pub mod Refusals
+pub mod Looks
+pub mod Sims
 pub mod Top

@@ -1,5 +1,5 @@
 -- The program's whole session: a command, its ending and status, and the line of its fault.
-use Rattle.std.specs.Prelude.{◌≡◌, ◌≤◌, ◌⊎◌, ℕ, ◌<◌, List, Option, Some, None, IsSomeAnd, length, Ok}
+use Rattle.std.specs.Prelude.{◌≡◌, ◌≤◌, ◌⊎◌, ℕ, ◌<◌, List, Option, Some, None, IsSomeAnd, length, Ok, Bool, true, false}
 use Rattle.outside.specs.Devices.{Puts}
 use Rattle.outside.specs.Causes.{Rose}
 use Rattle.outside.specs.declared.disk.Disk as disk
@@ -18,13 +18,16 @@ use Rattle.site_console.specs.Endings.{status_of, fault_line, Tells}
 use Rattle.site_console.specs.Files.{site_of}
 use Rattle.site_console.specs.Inits.{IsIdle, InitSession}
 use Rattle.site_console.specs.Limits.{input_limit}
+use Rattle.site_console.specs.Looks.{LookSession}
+use Rattle.site_console.specs.declared.look.Look.TheVariants as look
 use Rattle.site_console.specs.Sessions.{RunSession}
+use Rattle.site_console.specs.Sims.{SimSession}
 use Rattle.site_console.specs.Told.{Stream}
 
 -- the statuses of the program
 abbrev pub IsStatus : ℕ → Type 0
 IsStatus n =
-    (n ≡ 0) ⊎ ((n ≡ 2) ⊎ ((n ≡ 3) ⊎ ((n ≡ 4) ⊎ ((n ≡ 5) ⊎ ((n ≡ 6) ⊎ ((n ≡ 7) ⊎ ((n ≡ 8) ⊎ ((n ≡ 9) ⊎ ((n ≡ 11) ⊎ (n ≡ 13))))))))))
+    (n ≡ 0) ⊎ ((n ≡ 2) ⊎ ((n ≡ 3) ⊎ ((n ≡ 4) ⊎ ((n ≡ 5) ⊎ ((n ≡ 6) ⊎ ((n ≡ 7) ⊎ ((n ≡ 8) ⊎ ((n ≡ 9) ⊎ ((n ≡ 10) ⊎ ((n ≡ 11) ⊎ (n ≡ 13)))))))))))
 
 -- nothing was read, put or taken
 pub record Spares {D C W : Type 0} (old new : Devices D C W) (site_old site_new input_old input_new out_old out_new : Stream) : Type 0 where
@@ -46,15 +49,15 @@ Session g k w (Some Init) old new site_old site_new input_old input_new out_old 
 Session g k w (Some Run) old new site_old site_new input_old input_new out_old out_new ending =
     (site_new ≡ site_old) × RunSession g k w old new input_old input_new out_old out_new ending
 Session g k w (Some (Report batch)) old new site_old site_new input_old input_new out_old out_new ending =
-    Idles old new site_old site_new input_old input_new out_old out_new ending BadWords
+    (site_new ≡ site_old) × (input_new ≡ input_old) × LookSession g (look.Report batch) old new input_old out_old out_new ending
 Session g k w (Some (Export batch from count)) old new site_old site_new input_old input_new out_old out_new ending =
-    Idles old new site_old site_new input_old input_new out_old out_new ending BadWords
+    (site_new ≡ site_old) × (input_new ≡ input_old) × LookSession g (look.Export batch from count) old new input_old out_old out_new ending
 Session g k w (Some Check) old new site_old site_new input_old input_new out_old out_new ending =
-    Idles old new site_old site_new input_old input_new out_old out_new ending BadWords
+    (site_new ≡ site_old) × (input_new ≡ input_old) × LookSession g look.Check old new input_old out_old out_new ending
 Session g k w (Some (Log from count)) old new site_old site_new input_old input_new out_old out_new ending =
-    Idles old new site_old site_new input_old input_new out_old out_new ending BadWords
+    (site_new ≡ site_old) × (input_new ≡ input_old) × LookSession g (look.Log from count) old new input_old out_old out_new ending
 Session g k w (Some (Simulate seed count)) old new site_old site_new input_old input_new out_old out_new ending =
-    Idles old new site_old site_new input_old input_new out_old out_new ending BadWords
+    (site_new ≡ site_old) × (input_new ≡ input_old) × SimSession g seed count old new out_old out_new ending
 Session g k w (Some (Serve port workers connections)) old new site_old site_new input_old input_new out_old out_new ending =
     Idles old new site_old site_new input_old input_new out_old out_new ending BadWords
 
@@ -95,6 +98,18 @@ pub record CanInit (content left : Option (List ℕ)) : Type 0 where
   pub none : IsSomeAnd content IsNone
   pub says : IsSomeAnd left (λ all. (site : Setup) × (site_of all ≡ Ok site))
 
+-- a command that reads
+abbrev pub is_look : Option Command → Bool
+is_look (Some (Report batch)) = true
+is_look (Some (Export batch from count)) = true
+is_look (Some Check) = true
+is_look (Some (Log from count)) = true
+is_look command = false
+
 -- all was done, or memory was wanting
 abbrev pub IsDone : ℕ → Type 0
 IsDone status = (status ≡ 0) ⊎ (status ≡ 11)
+
+-- .. or the site has no such batch
+abbrev pub IsLooked : ℕ → Type 0
+IsLooked status = (status ≡ 10) ⊎ IsDone status

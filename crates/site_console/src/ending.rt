@@ -26,6 +26,8 @@ pub enum Ending {
     WriteFault,
     /// A call of the disk failed.
     DiskFault,
+    /// The site has no batch of that name.
+    UnknownBatch,
     /// Memory was wanting.
     NoMemory,
     /// As many bytes were taken as a run may take.
@@ -46,6 +48,7 @@ pub fn status_of(ending: Ending) -> u8
         Ending::ReadFault => 7,
         Ending::WriteFault => 8,
         Ending::DiskFault => 9,
+        Ending::UnknownBatch => 10,
         Ending::NoMemory => 11,
         Ending::TooLong => 13,
     }

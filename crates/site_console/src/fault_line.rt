@@ -35,6 +35,7 @@ fn tell<O: Sink>(out: &mut O, ending: Ending)
         Ending::NoJournal => tell_line(out, b"no journal\n"),
         Ending::ReadFault => tell_line(out, b"input fault\n"),
         Ending::DiskFault => tell_line(out, b"disk fault\n"),
+        Ending::UnknownBatch => tell_line(out, b"unknown batch\n"),
         Ending::NoMemory => tell_line(out, b"want of memory\n"),
         Ending::TooLong => tell_line(out, b"input too long\n"),
     }

@@ -4,7 +4,7 @@ ghost use Rattle.std.specs.Io.KnownBytes.{Appends};
 ghost use Rattle.outside.specs.Causes.{HasCauseIf};
 ghost use Rattle.outside.specs.Devices.{Puts};
 ghost use Rattle.site_console.specs.Endings.{is_write_ending};
-ghost use Rattle.site_console.specs.Inits.{IsReadyPut, InitSession, Makes};
+ghost use Rattle.site_console.specs.Inits.{IsTextPut, InitSession, Makes};
 ghost use Rattle.site_console.specs.Sessions.{RunSession};
 
 use crate::ending::{Ending, ending_of, ending_of_store};
@@ -77,16 +77,17 @@ fn make_journal<O: Sink, D: Disk, C: Clock, W: Words>(
     ensures write { HasCauseIf (is_write_ending result.0) (O.write_faults out.old) (O.write_faults out.new) }
 {
     match Store::init(alloc, devices, setup) {
-        Ok(store) => (tell_ready(out), store.into_devices()),
+        Ok(store) => (tell_text(out, b"ready\n"), store.into_devices()),
         Err((fault, devices)) => (ending_of_store(fault), devices),
     }
 }
 
-fn tell_ready<O: Sink>(out: &mut O) -> Ending
-    ensures put { Puts (O.held out.old) (O.held out.new) (λ put. IsReadyPut result put) }
+/// Puts a text whole.
+pub(crate) fn tell_text<O: Sink>(out: &mut O, text: &[u8]) -> Ending
+    ensures put { Puts (O.held out.old) (O.held out.new) (IsTextPut text.now result) }
     ensures write { HasCauseIf (is_write_ending result) (O.write_faults out.old) (O.write_faults out.new) }
 {
-    match put_all(out, b"ready\n") {
+    match put_all(out, text) {
         Ok(()) => Ending::Done,
         Err(_) => Ending::WriteFault,
     }

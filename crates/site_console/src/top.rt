@@ -1,21 +1,24 @@
 //! The program's one call.
-ghost use Rattle.std.specs.Prelude.{◌≡◌, ◌≤◌, ◌⊎◌, Some, map, string_bytes, true};
-ghost use Rattle.command_words.specs.Commands.{command_of};
+ghost use Rattle.std.specs.Prelude.{◌≡◌, ◌≤◌, ◌⊎◌, Some, IsSomeAnd, map, string_bytes, true};
+ghost use Rattle.command_words.specs.Commands.{IsRanged, command_of};
 ghost use Rattle.command_words.specs.declared.command.Command.TheVariants.{Init, Run};
 ghost use Rattle.site_console.specs.Commands.{is_refused};
 ghost use Rattle.site_console.specs.Endings.{fault_line, status_of};
-ghost use Rattle.site_console.specs.Top.{CanInit, CanRun, IsDone, IsStatus, NoneFailed, Obeys, Session, Top};
+ghost use Rattle.site_console.specs.Top.{CanInit, CanRun, is_look, IsDone, IsLoadable, IsLooked, IsStatus, NoneFailed, Obeys, Session, Top};
 
 use crate::ending::Ending;
 use crate::fault_line::end_with;
+use crate::look::{Look, look_store};
 use crate::sessions::{make_store, run_store};
+use crate::simulating::simulate_store;
 use command_words::{Command, read_command};
 use outside::{Clock, Disk, Sink, Source, Words};
 use site_store::{Devices, one_history};
 use std::alloc::Global;
 
 /// Runs the program with the words of its command line, and answers its status with the devices. `init SITE` reads the
-/// site file from `site` and makes the journal; `run` loads the journal and answers each line of the input.
+/// site file from `site` and makes the journal; `run` loads the journal and answers each line of the input; `report`,
+/// `export`, `check` and `log` load it and put what they tell of its history.
 pub fn site_top<S: Source, I: Source, O: Sink, D: Disk, C: Clock, W: Words>(
     alloc: Global,
     args: &[String],
@@ -26,8 +29,8 @@ pub fn site_top<S: Source, I: Source, O: Sink, D: Disk, C: Clock, W: Words>(
 ) -> (u8, Devices<D, C, W>)
     ensures statuses { IsStatus result.0 }
 
-    // The words are refused exactly where they are those of no command, or of `report`, `export`, `check`, `log`, `sim` or
-    // `serve`, which the program doesn't have yet; or memory is wanting. Then no device was called, but for the fault's line.
+    // The words are refused exactly where they are those of no command, or of `serve`, which the program doesn't
+    // have yet; or memory is wanting. Then no device was called, but for the fault's line.
     ensures bad_words { result.0 ≡ 2 → is_refused (command_of (map string_bytes args.now)) ≡ true }
     ensures refused { is_refused (command_of (map string_bytes args.now)) ≡ true
         → ((result.0 ≡ 2) ⊎ (result.0 ≡ 11)) × (site.new ≡ site.old) × (input.new ≡ input.old) × (result.1 ≡ devices) }
@@ -45,6 +48,10 @@ pub fn site_top<S: Source, I: Source, O: Sink, D: Disk, C: Clock, W: Words>(
     ensures inits { command_of (map string_bytes args.now) ≡ Some Init
         → NoneFailed (D.disk_faults devices.disk) (D.disk_faults result.1.disk) (S.read_faults site.old) (S.read_faults site.new) (O.write_faults out.old) (O.write_faults out.new)
         → CanInit (D.content devices.disk) (S.left site.old) → IsDone result.0 }
+    // .. And a look at a loadable journal puts its whole text, or finds no such batch.
+    ensures looks { is_look (command_of (map string_bytes args.now)) ≡ true
+        → NoneFailed (D.disk_faults devices.disk) (D.disk_faults result.1.disk) (I.read_faults input.old) (I.read_faults input.new) (O.write_faults out.old) (O.write_faults out.new)
+        → IsSomeAnd (D.content devices.disk) IsLoadable → IsLooked result.0 }
 {
     one_history();
     let (ending, devices) = obey(alloc, args, site, input, out, devices);
@@ -82,6 +89,7 @@ fn carry_out<S: Source, I: Source, O: Sink, D: Disk, C: Clock, W: Words>(
     out: &mut O,
     devices: Devices<D, C, W>,
 ) -> (Ending, Devices<D, C, W>)
+    requires ranged { IsRanged command }
     ensures session { Session D.Disk C.Clock W.Words (Some command) devices result.1
         (record { bytes = S.left site.old; faults = S.read_faults site.old }) (record { bytes = S.left site.new; faults = S.read_faults site.new })
         (record { bytes = I.left input.old; faults = I.read_faults input.old }) (record { bytes = I.left input.new; faults = I.read_faults input.new })
@@ -91,11 +99,13 @@ fn carry_out<S: Source, I: Source, O: Sink, D: Disk, C: Clock, W: Words>(
     match command {
         Command::Init => make_store(alloc, site, out, devices),
         Command::Run => run_store(alloc, input, out, devices),
-        Command::Report { .. } => (Ending::BadWords, devices),
-        Command::Export { .. } => (Ending::BadWords, devices),
-        Command::Check => (Ending::BadWords, devices),
-        Command::Log { .. } => (Ending::BadWords, devices),
-        Command::Simulate { .. } => (Ending::BadWords, devices),
+        Command::Report { batch } => look_store(alloc, Look::Report(batch), out, devices),
+        Command::Export { batch, from, count } => {
+            look_store(alloc, Look::Export(batch, from, count), out, devices)
+        }
+        Command::Check => look_store(alloc, Look::Check, out, devices),
+        Command::Log { from, count } => look_store(alloc, Look::Log(from, count), out, devices),
+        Command::Simulate { seed, count } => simulate_store(alloc, seed, count, out, devices),
         Command::Serve { .. } => (Ending::BadWords, devices),
     }
 }

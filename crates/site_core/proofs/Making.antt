@@ -1,9 +1,7 @@
 -- What is kept of the move of a deed, by the stores.
-use Rattle.std.proofs.Common.{◌≡◌, ◌<◌, ◌≤◌, ◌+◌, ℕ, zero, suc, Bool, true, false, cond, eqb, not, nat_lt, List, [], ◌∷◌, map, length, get_or, All, Option, None, Some, refl, sym, ap, ◌∙◌, arith}
-use Rattle.std.specs.Prelude.{find, option_map, if◌then◌else◌, take, take_while, Result, Ok, Err, IfOk}
+use Rattle.std.proofs.Common.{◌≡◌, ◌<◌, ◌+◌, ℕ, zero, suc, Bool, true, false, cond, eqb, not, nat_lt, List, [], ◌∷◌, map, length, get_or, All, Option, None, Some, refl, sym, ap, ◌∙◌, arith}
+use Rattle.std.specs.Prelude.{option_map, if◌then◌else◌, take, take_while, Result, Ok, Err, IfOk}
 use Rattle.std.specs.List.{slice_get, position, position_or_len, prefix_len, AllByRecursion as Every}
-use Rattle.std.proofs.lemmas.List.Folds.{find_at}
-use Rattle.std.proofs.lemmas.Bool.Decides.{nat_tests}
 use Rattle.std.proofs.lemmas.List.Recursion.{is_position_or_len}
 use Rattle.epc_urn.specs.declared.epc.Epc.{Epc}
 use Rattle.deed_words.specs.Names.{Text, same}
@@ -24,7 +22,7 @@ use Rattle.deed_words.proofs.Sameness.{same-true}
 use Rattle.pack_tree.specs.declared.link.Pair.{Pair as Link}
 use Rattle.pack_tree.specs.Packing.{HasRoom, IsThereIn}
 use Rattle.pack_tree.specs.Pairs as tree
-use Rattle.batch_book.specs.Batches.{is_called, name_in, IsNamed}
+use Rattle.batch_book.specs.Batches.{is_called}
 use Rattle.batch_book.specs.Content.{Content, world_in}
 use Rattle.site_stores.proofs.Finding.{no_batch, the_batch, within}
 use Rattle.site_core.specs.Seen.{rule_told}
@@ -50,16 +48,6 @@ children_there items units unit (link ∷ links) all =
 
 -- ---- batches
 
--- no batch has an empty name
-pub none_called : (batches : List Batch) → All IsNamed batches → find (is_called []) batches ≡ None
-unfolding is_called same
-none_called [] named = refl
-none_called (batch ∷ batches) named = some (name_in batch) (named 0 batch (omega arith)) (none_called batches (λ k d l. named (suc k) d (omega (arith, l))))
-  where
-    some : (name : Text) → 0 < length name → find (is_called []) batches ≡ None → cond (same name []) (Some batch) (find (is_called []) batches) ≡ None
-    some [] long rest = absurd (omega (arith, long))
-    some (x ∷ name) long rest = rest
-
 some_is : (b : Bool) (n at : ℕ) → cond b (Some n) None ≡ Some at → n ≡ at
 some_is true n at e = cc
 some_is false n at e = absurd (cc)
@@ -77,20 +65,6 @@ number_at w name at e =
           | true ↦ refl
           | false ↦ let one = one_taken (prefix_len (λ (b : Batch). not (same b.order.batch name)) xs) x xs in omega (arith, one)
         ]
-
-absent : {A : Type 0} (xs : List A) (n : ℕ) → slice_get xs n ≡ None → length xs ≤ n
-absent [] n e = omega arith
-absent (x ∷ xs) zero e = absurd (cc)
-absent (x ∷ xs) (suc n) e = let rest = absent xs n e in omega (arith, rest)
-
-not_below : (n m : ℕ) → m ≤ n → nat_lt n m ≡ false
-not_below n m l = grind (arith, nat_tests)
-
--- what isn't found has no place
-pub not_found : {A : Type 0} (test : A → Bool) (xs : List A) → find test xs ≡ None → position test xs ≡ None
-not_found test xs e =
-    let far = absent xs (position_or_len test xs) (sym (find_at test xs) ∙ e) in
-    ap (λ (b : Bool). cond b (Some (position_or_len test xs)) None) (not_below (position_or_len test xs) (length xs) far)
 
 there_at : {A : Type 0} (xs : List A) (at : ℕ) → at < length xs → (x : A) × (slice_get xs at ≡ Some x)
 there_at [] at l = absurd (omega (arith, l))

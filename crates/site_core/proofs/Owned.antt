@@ -1,5 +1,5 @@
 -- The moves of a batch, by its number and by its name.
-use Rattle.std.proofs.Common.{◌≡◌, ◌<◌, ◌≤◌, ◌+◌, ◌-◌, ◌++◌, ℕ, zero, suc, nat_eq, eqb, List, [], ◌∷◌, map, length, get_or, All, None, Some, refl, sym, ap, ◌∙◌, subst, arith}
+use Rattle.std.proofs.Common.{◌≡◌, ◌<◌, ◌≤◌, ◌-◌, ◌++◌, ℕ, zero, suc, nat_eq, eqb, List, [], ◌∷◌, map, length, get_or, All, None, Some, refl, sym, ap, ◌∙◌, subst, arith}
 use Rattle.std.specs.Prelude.{take, drop}
 use native.Mathlib.Decide.{dec_lt}
 use Rattle.std.specs.List.{slice_get, AllByRecursion as Every}

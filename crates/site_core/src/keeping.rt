@@ -77,16 +77,16 @@ fn unnamed(alloc: Global, stores: &Stores, deed: &Deed, answer: &Answer) -> Resu
     }
 }
 
-/// The place of the batch of a unit.
-#[tactic(auto, unfolding(deed_words::specs::Deeds::batch_with))]
+/// The place of the batch of a unit: its row tells it.
 fn batch_with(stores: &Stores, sscc: &Sscc) -> Option<BatchId>
     ensures { result ≡ position (is_called (batch_with (world_in stores.now.content) sscc.now)) stores.now.content.batches }
 {
     stores.tell_whole();
-    match stores.unit(sscc) {
-        Some(unit) => stores.find_batch(&unit.batch),
-        None => None,
-    }
+    let Some(unit) = stores.find_unit(sscc) else {
+        return None;
+    };
+    let row = stores.unit_at(unit);
+    Some(row.batch)
 }
 
 /// The place of the batch of a deed that has an event.

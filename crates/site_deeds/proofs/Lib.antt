@@ -11,3 +11,4 @@ pub mod OfRows
 pub mod OfDraw
 pub mod OfDecision
 pub mod OfDeed
+pub mod OfFound

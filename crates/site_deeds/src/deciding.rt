@@ -1,5 +1,6 @@
 //! What comes of a deed.
 ghost use Rattle.std.specs.Prelude.{◌≡◌, ◌≤◌, [], None, Some, true, false, IfOk, IfErr};
+ghost use Rattle.std.specs.List.{position};
 ghost use Rattle.outside.specs.Causes.{HasCauseIf};
 ghost use Rattle.outside.specs.Devices.{Takes};
 ghost use Rattle.gs1_keys.specs.Forms.{is_among};
@@ -11,6 +12,7 @@ ghost use Rattle.deed_words.specs.Sound.{IsSound};
 ghost use Rattle.deed_words.specs.declared.deed.Deed.TheVariants.{Draw};
 ghost use Rattle.deed_words.specs.declared.reply.Reply.TheVariants.{Accepted, Refused};
 ghost use Rattle.serial_pool.specs.Held.{IsPlanFor};
+ghost use Rattle.batch_book.specs.Batches.{is_called};
 ghost use Rattle.batch_book.specs.Content.{world_in};
 ghost use Rattle.site_rules.specs.Asked.{IsFound};
 ghost use Rattle.site_rules.specs.Suits.{is_draw};
@@ -23,12 +25,12 @@ ghost use Rattle.site_deeds.specs.Draws.{drawn_in, HasRoomToDraw};
 ghost use Rattle.site_deeds.specs.declared.fault.KnownFault.TheVariants as known;
 
 use crate::decided::Decided;
-use crate::doing::do_deed;
+use crate::doing::{batch_found, do_deed};
 use crate::done::Done;
 use crate::drawing::{draw, plan_known, plan_serials};
 use crate::fault::{KnownFault, PlanFault};
 use crate::judging::{Judged, judge};
-use deed_words::{Deed, Reply, Rule, Setup, StationId};
+use deed_words::{BatchId, Deed, Reply, Rule, Setup, StationId};
 use gs1_keys::{Memory, Serials, Text20};
 use outside::Words;
 use serial_pool::{DrawPlan, Pool};
@@ -86,16 +88,18 @@ fn decide_other(
     Ok(accepted(done, None))
 }
 
-/// What comes of a draw that breaks no rule, with this plan.
+/// What comes of a draw that breaks no rule, with this plan. The place of its batch is known.
 fn decide_planned(
     setup: &Setup,
     stores: &mut Stores,
     station: StationId,
     name: &Text20,
+    batch: BatchId,
     count: u32,
     plan: DrawPlan,
 ) -> Result<Decided, Memory>
     requires allowed { broken setup.now (world_in stores.old.content) station (Draw name.now count) ≡ None }
+    requires place { position (is_called name.now) stores.old.content.batches ≡ Some batch }
     requires sound { IsSound setup.now (world_in stores.old.content) }
     requires new { AreNewFor setup.now (world_in stores.old.content) (gtin_of (world_in stores.old.content) name.now) count plan.serials }
     requires gtin { plan.gtin ≡ gtin_of (world_in stores.old.content) name.now }
@@ -106,21 +110,23 @@ fn decide_planned(
     ensures kept { IsWithin stores.old.room stores.new.room }
     ensures room { IfOk result (λ decided. IsWithin (room_for decided.change) stores.new.room) }
 {
-    let done = draw(stores, name, plan.serials())?;
+    let done = draw(stores, name, batch, plan.serials())?;
     Ok(accepted(done, Some(plan)))
 }
 
-/// What comes of a draw that breaks no rule.
+/// What comes of a draw that breaks no rule. The place of its batch is known.
 fn decide_draw<W: Words>(
     setup: &Setup,
     stores: &mut Stores,
     pool: &mut Pool,
     station: StationId,
     name: &Text20,
+    batch: BatchId,
     count: u32,
     words: &mut W,
 ) -> Result<Decided, PlanFault>
     requires allowed { broken setup.now (world_in stores.old.content) station (Draw name.now count) ≡ None }
+    requires place { position (is_called name.now) stores.old.content.batches ≡ Some batch }
     requires sound { IsSound setup.now (world_in stores.old.content) }
     requires pool { pool.old.drawn ≡ drawn_in (world_in stores.old.content) }
     ensures decides { Takes (W.words_left words.old) (W.words_left words.new) (λ taken. Decides setup.now stores.old.content station (Draw name.now count) taken result) }
@@ -133,11 +139,11 @@ fn decide_draw<W: Words>(
     ensures pool_kept { pool.old.room ≤ pool.new.room }
     ensures still { (gtin : _) → is_among pool.old.gtins gtin ≡ true → is_among pool.new.gtins gtin ≡ true }
 {
-    let plan = match plan_serials(setup, stores, pool, station, name, count, words) {
+    let plan = match plan_serials(setup, stores, pool, station, name, batch, count, words) {
         Ok(plan) => plan,
         Err(fault) => return Err(fault),
     };
-    match decide_planned(setup, stores, station, name, count, plan) {
+    match decide_planned(setup, stores, station, name, batch, count, plan) {
         Ok(decided) => Ok(decided),
         Err(_) => Err(PlanFault::Memory),
     }
@@ -180,7 +186,8 @@ pub fn decide<W: Words>(
         Err(_) => return Err(PlanFault::Memory),
     };
     if let Deed::Draw(name, count) = deed {
-        return decide_draw(setup, stores, pool, station, name, *count, words);
+        let batch = batch_found(&found);
+        return decide_draw(setup, stores, pool, station, name, batch, *count, words);
     }
     match decide_other(alloc, setup, stores, station, deed, &found) {
         Ok(decided) => Ok(decided),
@@ -188,17 +195,19 @@ pub fn decide<W: Words>(
     }
 }
 
-/// What comes of a draw that breaks no rule, with serials that were read back.
+/// What comes of a draw that breaks no rule, with serials that were read back. The place of its batch is known.
 fn decide_known_draw(
     setup: &Setup,
     stores: &mut Stores,
     pool: &mut Pool,
     station: StationId,
     name: &Text20,
+    batch: BatchId,
     count: u32,
     drawn: &Serials,
 ) -> Result<Decided, KnownFault>
     requires allowed { broken setup.now (world_in stores.old.content) station (Draw name.now count) ≡ None }
+    requires place { position (is_called name.now) stores.old.content.batches ≡ Some batch }
     requires sound { IsSound setup.now (world_in stores.old.content) }
     requires pool { pool.old.drawn ≡ drawn_in (world_in stores.old.content) }
     ensures known { IfOk result (λ decided. IsDecided setup.now stores.old.content station (Draw name.now count) drawn.now decided) }
@@ -211,11 +220,11 @@ fn decide_known_draw(
     ensures pool_kept { pool.old.room ≤ pool.new.room }
     ensures still { (gtin : _) → is_among pool.old.gtins gtin ≡ true → is_among pool.new.gtins gtin ≡ true }
 {
-    let plan = match plan_known(setup, stores, pool, station, name, count, drawn) {
+    let plan = match plan_known(setup, stores, pool, station, name, batch, count, drawn) {
         Ok(plan) => plan,
         Err(fault) => return Err(fault),
     };
-    match decide_planned(setup, stores, station, name, count, plan) {
+    match decide_planned(setup, stores, station, name, batch, count, plan) {
         Ok(decided) => Ok(decided),
         Err(_) => Err(KnownFault::Memory),
     }
@@ -261,7 +270,8 @@ pub fn decide_known(
         Err(_) => return Err(KnownFault::Memory),
     };
     if let Deed::Draw(name, count) = deed {
-        return decide_known_draw(setup, stores, pool, station, name, *count, drawn);
+        let batch = batch_found(&found);
+        return decide_known_draw(setup, stores, pool, station, name, batch, *count, drawn);
     }
     if !drawn.is_empty() {
         return Err(KnownFault::NotDrawn);

@@ -1,5 +1,5 @@
 //! What an accepted deed is told, and what it changes: each deed by its kind.
-ghost use Rattle.std.specs.Prelude.{◌≡◌, None, [], IfOk, false};
+ghost use Rattle.std.specs.Prelude.{◌≡◌, ◌≢◌, None, Some, [], IfOk, false};
 ghost use Rattle.deed_words.specs.Proper.{IsProperDeed};
 ghost use Rattle.deed_words.specs.Rules.{broken};
 ghost use Rattle.deed_words.specs.Sound.{IsSound};
@@ -16,12 +16,34 @@ use crate::moving::move_rows;
 use crate::ordering::order;
 use crate::packing::{empty, put, take};
 use crate::units::{make, to_mark};
-use deed_words::{Deed, Mark, Phase, Setup, StationId};
+use deed_words::{BatchId, Deed, Mark, Phase, Setup, StationId, UnitId};
 use gs1_keys::Memory;
 use site_rules::Found;
 use site_stores::Stores;
 use std::alloc::Global;
 use std::slice::from_ref;
+
+/// The place of the unit that the deed names, which is there.
+fn unit_found(found: &Found) -> UnitId
+    requires there { found.now.unit ≢ None }
+    ensures { found.now.unit ≡ Some result }
+{
+    let Some(unit) = found.unit else {
+        unreachable!()
+    };
+    unit
+}
+
+/// The place of the batch that the deed is about, which is there.
+pub(crate) fn batch_found(found: &Found) -> BatchId
+    requires there { found.now.batch ≢ None }
+    ensures { found.now.batch ≡ Some result }
+{
+    let Some(batch) = found.batch else {
+        unreachable!()
+    };
+    batch
+}
 
 /// What a deed that breaks no rule is told and changes; for a draw `draw` does the same. What its names stand for was
 /// found when its rules were tried.
@@ -48,9 +70,9 @@ pub(crate) fn do_deed(
     match deed {
         Deed::Order(row) => order(alloc, stores, from_ref(row), origins),
         Deed::Orders(rows) => order(alloc, stores, rows.as_slice(), origins),
-        Deed::Start(name) => Ok(to_phase(stores, name, Phase::Started)),
+        Deed::Start(_) => Ok(to_phase(stores, batch_found(found), Phase::Started)),
         Deed::Draw(_, _) => unreachable!(),
-        Deed::Lend(name, count) => lend(alloc, stores, station, name, *count),
+        Deed::Lend(_, count) => lend(alloc, stores, station, batch_found(found), *count),
         Deed::Commission(_, _)
         | Deed::Spoil(_, _)
         | Deed::Giveback(_, _)
@@ -59,17 +81,21 @@ pub(crate) fn do_deed(
         | Deed::Reinstate(_, _)
         | Deed::Destroy(_, _)
         | Deed::Decommission(_, _) => move_rows(alloc, stores, deed, places),
-        Deed::Container(name, level) => make(stores, setup, name, *level),
-        Deed::Pack(sscc, children) => put(alloc, stores, sscc, children.as_slice(), places),
-        Deed::Unpack(_, children) => take(alloc, stores, children.as_slice(), places),
-        Deed::UnpackAll(sscc) => empty(alloc, stores, sscc),
-        Deed::Seal(sscc) => Ok(to_mark(stores, sscc, Mark::Sealed)),
-        Deed::Unseal(sscc) => Ok(to_mark(stores, sscc, Mark::Filling)),
-        Deed::Void(sscc) => Ok(to_mark(stores, sscc, Mark::Void)),
-        Deed::Declare(name, good, spoiled, returned) => {
-            declare(stores, station, name, *good, *spoiled, *returned)
+        Deed::Container(_, level) => make(stores, setup, batch_found(found), *level),
+        Deed::Pack(_, children) => {
+            let unit = unit_found(found);
+            put(alloc, stores, unit, children.as_slice(), places)
         }
-        Deed::Close(name) => Ok(to_phase(stores, name, Phase::Closed)),
-        Deed::Amend(name, quantity) => Ok(amend(stores, name, *quantity)),
+        Deed::Unpack(_, children) => take(alloc, stores, children.as_slice(), places),
+        Deed::UnpackAll(_) => empty(alloc, stores, unit_found(found)),
+        Deed::Seal(_) => Ok(to_mark(stores, unit_found(found), Mark::Sealed)),
+        Deed::Unseal(_) => Ok(to_mark(stores, unit_found(found), Mark::Filling)),
+        Deed::Void(_) => Ok(to_mark(stores, unit_found(found), Mark::Void)),
+        Deed::Declare(_, good, spoiled, returned) => {
+            let batch = batch_found(found);
+            declare(stores, station, batch, *good, *spoiled, *returned)
+        }
+        Deed::Close(_) => Ok(to_phase(stores, batch_found(found), Phase::Closed)),
+        Deed::Amend(_, quantity) => Ok(amend(stores, batch_found(found), *quantity)),
     }
 }

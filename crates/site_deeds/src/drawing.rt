@@ -1,5 +1,6 @@
 //! Serials that are drawn for a batch.
-ghost use Rattle.std.specs.Prelude.{◌≡◌, ◌≢◌, ◌≤◌, ◌+◌, ◌^◌, ◌<◌, None, Some, true, length, IfOk, IfErr, map};
+ghost use Rattle.std.specs.Prelude.{◌≡◌, ◌≤◌, ◌+◌, ◌^◌, ◌<◌, None, Some, true, length, IfOk, IfErr, map};
+ghost use Rattle.std.specs.List.{position};
 ghost use Rattle.outside.specs.Causes.{HasCauseIf};
 ghost use Rattle.outside.specs.Devices.{Takes};
 ghost use Rattle.gs1_keys.specs.Forms.{is_among, AreNew};
@@ -8,9 +9,9 @@ ghost use Rattle.serial_pool.specs.Held.{IsPlanFor, HasRoomFor, drawn_count};
 ghost use Rattle.deed_words.specs.Effects.{gtin_of, with_drawn};
 ghost use Rattle.deed_words.specs.History.{AreNewFor, serials_of};
 ghost use Rattle.deed_words.specs.Rules.{broken};
-ghost use Rattle.deed_words.specs.World.{batch_of};
 ghost use Rattle.deed_words.specs.declared.deed.Deed.TheVariants.{Draw};
 ghost use Rattle.deed_words.specs.declared.reply.Answer.TheVariants.{Listed};
+ghost use Rattle.batch_book.specs.Batches.{is_called};
 ghost use Rattle.batch_book.specs.Content.{world_in};
 ghost use Rattle.site_stores.specs.Holding.{IsWithin};
 ghost use Rattle.site_deeds.specs.Does.{Does};
@@ -20,23 +21,25 @@ ghost use Rattle.site_deeds.specs.declared.fault.KnownFault.TheVariants as known
 
 use crate::done::Done;
 use crate::fault::{KnownFault, PlanFault};
-use deed_words::{Answer, Setup, StationId};
+use deed_words::{Answer, BatchId, Setup, StationId};
 use gs1_keys::{Memory, Serials, Text20};
 use outside::Words;
 use serial_pool::{DrawFault, DrawPlan, KnownFault as NotKnown, Pool};
 use site_stores::{Change, Stores};
 
-/// Plans the serials of a draw that breaks no rule.
+/// Plans the serials of a draw that breaks no rule. The place of its batch is known.
 pub(crate) fn plan_serials<W: Words>(
     setup: &Setup,
     stores: &Stores,
     pool: &mut Pool,
     station: StationId,
     name: &Text20,
+    batch: BatchId,
     count: u32,
     words: &mut W,
 ) -> Result<DrawPlan, PlanFault>
     requires allowed { broken setup.now (world_in stores.now.content) station (Draw name.now count) ≡ None }
+    requires place { position (is_called name.now) stores.now.content.batches ≡ Some batch }
     requires pool { pool.old.drawn ≡ drawn_in (world_in stores.now.content) }
     ensures draw { Takes (W.words_left words.old) (W.words_left words.new) (λ taken. DrawEnds setup.now (world_in stores.now.content) name.now count taken result) }
     ensures cause { HasCauseIf (is_words_fault result) (W.word_faults words.old) (W.word_faults words.new) }
@@ -48,13 +51,11 @@ pub(crate) fn plan_serials<W: Words>(
     ensures kept { pool.old.room ≤ pool.new.room }
     ensures still { (gtin : _) → is_among pool.old.gtins gtin ≡ true → is_among pool.new.gtins gtin ≡ true }
 {
-    let Some(batch) = stores.batch(name) else {
+    let order = stores.batch_at(batch).order;
+    let Some(product) = setup.product(&order.gtin) else {
         unreachable!()
     };
-    let Some(product) = setup.product(&batch.order.gtin) else {
-        unreachable!()
-    };
-    match pool.plan_draw(&batch.order.gtin, &product.form, words, count) {
+    match pool.plan_draw(&order.gtin, &product.form, words, count) {
         Ok(plan) => Ok(plan),
         Err(DrawFault::PoolThin(_, _, _)) => unreachable!(),
         Err(DrawFault::WordsSpent(found)) => Err(PlanFault::WordsSpent(found)),
@@ -63,17 +64,19 @@ pub(crate) fn plan_serials<W: Words>(
     }
 }
 
-/// Plans serials that were read back for a draw that breaks no rule.
+/// Plans serials that were read back for a draw that breaks no rule. The place of its batch is known.
 pub(crate) fn plan_known(
     setup: &Setup,
     stores: &Stores,
     pool: &mut Pool,
     station: StationId,
     name: &Text20,
+    batch: BatchId,
     count: u32,
     drawn: &Serials,
 ) -> Result<DrawPlan, KnownFault>
     requires allowed { broken setup.now (world_in stores.now.content) station (Draw name.now count) ≡ None }
+    requires place { position (is_called name.now) stores.now.content.batches ≡ Some batch }
     requires pool { pool.old.drawn ≡ drawn_in (world_in stores.now.content) }
     ensures new { IfOk result (λ plan. AreNewFor setup.now (world_in stores.now.content) (gtin_of (world_in stores.now.content) name.now) count plan.serials) }
     ensures known { IfOk result (λ plan. plan.serials ≡ drawn.now) }
@@ -88,22 +91,26 @@ pub(crate) fn plan_known(
     if drawn.len() as u64 != u64::from(count) {
         return Err(KnownFault::NotDrawn);
     }
-    let Some(batch) = stores.batch(name) else {
+    let order = stores.batch_at(batch).order;
+    let Some(product) = setup.product(&order.gtin) else {
         unreachable!()
     };
-    let Some(product) = setup.product(&batch.order.gtin) else {
-        unreachable!()
-    };
-    match pool.plan_known(&batch.order.gtin, &product.form, drawn) {
+    match pool.plan_known(&order.gtin, &product.form, drawn) {
         Ok(plan) => Ok(plan),
         Err(NotKnown::NotNew(_)) => Err(KnownFault::NotDrawn),
         Err(NotKnown::Memory) => Err(KnownFault::Memory),
     }
 }
 
-/// These serials are drawn for the batch. They are new for its GTIN, and of its product's form.
-pub(crate) fn draw(stores: &mut Stores, name: &Text20, serials: &Serials) -> Result<Done, Memory>
-    requires there { batch_of (world_in stores.old.content) name.now ≢ None }
+/// These serials are drawn for the batch of the name, whose place is known. They are new for its GTIN, and of its
+/// product's form.
+pub(crate) fn draw(
+    stores: &mut Stores,
+    name: &Text20,
+    batch: BatchId,
+    serials: &Serials,
+) -> Result<Done, Memory>
+    requires place { position (is_called name.now) stores.old.content.batches ≡ Some batch }
     requires new { (form : TheForm) × AreNew (serials_of (world_in stores.old.content) (gtin_of (world_in stores.old.content) name.now)) form serials.now }
     requires rows { length stores.old.content.rows + length serials.now ≤ 1000000 }
     requires batches { length stores.old.content.batches ≤ 4096 }
@@ -114,9 +121,6 @@ pub(crate) fn draw(stores: &mut Stores, name: &Text20, serials: &Serials) -> Res
 {
     stores.ready(0, 0, serials.len() as u32, 0)?;
     stores.tell_whole();
-    let Some(batch) = stores.find_batch(name) else {
-        unreachable!()
-    };
     let gtin = stores.batch_at(batch).order.gtin;
     let told = serials.copy()?;
     let drawn = serials.copy()?;

@@ -1,17 +1,19 @@
 //! Serials that are lent to a line.
-ghost use Rattle.std.specs.Prelude.{◌≡◌, ◌≢◌, ◌<◌, None, Some, map, length, IfOk};
-ghost use Rattle.std.specs.List.{AllByRecursion as Every};
+ghost use Rattle.std.specs.Prelude.{◌≡◌, ◌<◌, Some, map, length, IfOk};
+ghost use Rattle.std.specs.List.{AllByRecursion as Every, position};
 ghost use Rattle.deed_words.specs.Effects.{with_rows, lent_rows, lent_to};
-ghost use Rattle.deed_words.specs.World.{batch_of, name_of};
+ghost use Rattle.deed_words.specs.Names.{Text};
+ghost use Rattle.deed_words.specs.World.{name_of};
 ghost use Rattle.deed_words.specs.declared.reply.Answer.TheVariants.{Listed};
 ghost use Rattle.deed_words.specs.declared.words.State.TheVariants.{Lent};
+ghost use Rattle.batch_book.specs.Batches.{is_called};
 ghost use Rattle.batch_book.specs.Content.{world_in};
 ghost use Rattle.site_deeds.specs.Does.{Does};
 ghost use Rattle.site_deeds.specs.Placed.{IsLent, AreLent};
 
 use crate::done::Done;
-use deed_words::{Answer, ItemId, State, StationId};
-use gs1_keys::{Memory, Serials, Text20};
+use deed_words::{Answer, BatchId, ItemId, State, StationId};
+use gs1_keys::{Memory, Serials};
 use item_store::ItemRow;
 use site_stores::{Change, Stores, Turn, Turns};
 use std::alloc::Global;
@@ -62,21 +64,18 @@ fn lend_each(
     Ok(Loan { serials, turns })
 }
 
-/// The first Fresh serials of the batch are lent to the line, so many or all where there are fewer.
+/// The first Fresh serials of the batch at the place are lent to the line, so many or all where there are fewer.
 pub(crate) fn lend(
     alloc: Global,
     stores: &Stores,
     line: StationId,
-    name: &Text20,
+    batch: BatchId,
     count: u32,
 ) -> Result<Done, Memory>
-    requires there { batch_of (world_in stores.now.content) name.now ≢ None }
-    ensures { IfOk result (λ done. Does stores.now done (Listed (map (λ row. row.serial) (lent_rows (world_in stores.now.content) name.now count))) (with_rows (world_in stores.now.content) (lent_to line) (map name_of (lent_rows (world_in stores.now.content) name.now count)))) }
+    requires there { batch < length stores.now.content.batches }
+    ensures { IfOk result (λ done. (name : Text) → position (is_called name) stores.now.content.batches ≡ Some batch → Does stores.now done (Listed (map (λ row. row.serial) (lent_rows (world_in stores.now.content) name count))) (with_rows (world_in stores.now.content) (lent_to line) (map name_of (lent_rows (world_in stores.now.content) name count)))) }
 {
     stores.tell_whole();
-    let Some(batch) = stores.find_batch(name) else {
-        unreachable!()
-    };
     let items = stores.first_fresh(alloc, batch, count)?;
     let loan = lend_each(alloc, stores, line, items.as_slice())?;
     Ok(Done {

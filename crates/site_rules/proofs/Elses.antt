@@ -6,11 +6,11 @@ use Rattle.deed_words.specs.Names.{Text}
 use Rattle.deed_words.specs.Setups.{Setup}
 use Rattle.deed_words.specs.World.{World, parent, unit_of}
 use Rattle.deed_words.specs.Chain.{each}
-use Rattle.deed_words.specs.Deeds.{named, batch_named, unit_named, order_rows}
+use Rattle.deed_words.specs.Deeds.{named, batch_named, batch_with, unit_named, order_rows}
 use Rattle.deed_words.specs.Orders.{new_orders, orders_in}
 use Rattle.deed_words.specs.Tests.{site_full, full, has_parent, wrong_level, misfits, other_batch, strays}
 use Rattle.deed_words.specs.declared.deed.Deed.{Deed}
-use Rattle.deed_words.specs.declared.deed.Deed.TheVariants.{Order, Orders, Draw, Lend, Commission, Unseal, Close, Container as MakeUnit}
+use Rattle.deed_words.specs.declared.deed.Deed.TheVariants.{Order, Orders, Draw, Commission, Pack, Unpack, UnpackAll, Seal, Unseal, Void, Container as MakeUnit}
 use Rattle.deed_words.specs.declared.words.Level.{Level}
 use Rattle.deed_words.specs.declared.words.What.TheVariants.{Batches}
 use Rattle.deed_words.specs.declared.rule.Rule.TheVariants.{HasParent}
@@ -44,6 +44,17 @@ unfolding is_about_unit
 about_else (MakeUnit name level) a e = absurd (a name level refl)
 about_else deed a e = e
 
+-- the batch of what names a unit is that of the unit
+pub batch_of_unit : (w : World) (deed : Deed) → names_unit deed ≡ true → batch_named w deed ≡ batch_with w (unit_named deed)
+unfolding names_unit batch_named unit_named
+batch_of_unit w (Pack unit children) e = refl
+batch_of_unit w (Unpack unit children) e = refl
+batch_of_unit w (UnpackAll unit) e = refl
+batch_of_unit w (Seal unit) e = refl
+batch_of_unit w (Unseal unit) e = refl
+batch_of_unit w (Void unit) e = refl
+batch_of_unit w deed e = absurd (true≢false (sym e))
+
 -- what names a unit, or draws, is about a batch
 pub unit_about : (deed : Deed) → names_unit deed ≡ true → is_about_batch deed ≡ true
 unfolding names_unit is_about_batch
@@ -57,13 +68,14 @@ draw_about (Order row) e = absurd (true≢false (sym e))
 draw_about (Orders rows) e = absurd (true≢false (sym e))
 draw_about deed e = refl
 
--- what lends is a lend, and what closes a close
-pub lend_else : (deed : Deed) → ((name : Text) (count : ℕ) → deed ≡ Lend name count → ⊥) → is_lend deed ≡ true → ⊥
-unfolding is_lend
-lend_else (Lend name count) a e = a name count refl
-lend_else deed a e = true≢false (sym e)
+pub lend_about : (deed : Deed) → is_lend deed ≡ true → is_about_batch deed ≡ true
+unfolding is_lend is_about_batch
+lend_about (Order row) e = absurd (true≢false (sym e))
+lend_about (Orders rows) e = absurd (true≢false (sym e))
+lend_about deed e = refl
 
-pub close_else : (deed : Deed) → ((name : Text) → deed ≡ Close name → ⊥) → is_close deed ≡ true → ⊥
-unfolding is_close
-close_else (Close name) a e = a name refl
-close_else deed a e = true≢false (sym e)
+pub close_about : (deed : Deed) → is_close deed ≡ true → is_about_batch deed ≡ true
+unfolding is_close is_about_batch
+close_about (Order row) e = absurd (true≢false (sym e))
+close_about (Orders rows) e = absurd (true≢false (sym e))
+close_about deed e = refl

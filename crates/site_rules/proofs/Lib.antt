@@ -6,3 +6,4 @@ pub mod Fitness
 pub mod Naming
 pub mod Placed
 pub mod Elses
+pub mod Subjects

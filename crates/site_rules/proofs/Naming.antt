@@ -1,12 +1,12 @@
 -- Nothing is of a batch with no name.
-use Rattle.std.proofs.Common.{◌≡◌, ◌<◌, ℕ, zero, suc, Bool, true, false, not, eqb, cond, map, length, get_or, List, [], ◌∷◌, Option, None, Some, refl, sym, ap, ◌∙◌, arith, true≢false, All}
+use Rattle.std.proofs.Common.{◌≡◌, ◌<◌, ℕ, zero, suc, Bool, true, false, not, eqb, map, length, get_or, List, [], ◌∷◌, Option, None, Some, refl, sym, ap, ◌∙◌, arith, true≢false, All}
 use Rattle.std.specs.Prelude.{find, option_map}
 use Rattle.std.specs.List.{AllByRecursion as Every}
 use Rattle.std.proofs.lemmas.Bool.Decides.{nat_tests}
 use Rattle.epc_urn.specs.declared.epc.Epc.{Epc}
 use Rattle.epc_urn.specs.declared.epc.Epc.TheVariants.{Item, Unit as Box}
 use Rattle.deed_words.specs.Names.{Text, same, same_name}
-use Rattle.deed_words.specs.World.{World, batch_of, row_of, unit_of, home, name_of}
+use Rattle.deed_words.specs.World.{World, row_of, unit_of, home, name_of}
 use Rattle.deed_words.specs.Chain.{first, when, each, each_from, holds_of}
 use Rattle.deed_words.specs.Tests.{is_of, strays}
 use Rattle.deed_words.specs.declared.world.Batch.{Batch}
@@ -25,20 +25,10 @@ unfolding same
 not_empty [] l = absurd (omega (arith, l))
 not_empty (x ∷ xs) l = refl
 
-empty_not : (t : Text) → 0 < length t → same t [] ≡ false
+pub empty_not : (t : Text) → 0 < length t → same t [] ≡ false
 unfolding same
 empty_not [] l = absurd (omega (arith, l))
 empty_not (x ∷ xs) l = refl
-
-nameless : (batches : List Batch) → All IsNamed batches → find (λ (batch : Batch). same batch.order.batch []) batches ≡ None
-nameless [] a = refl
-nameless (b ∷ bs) a =
-    ap (λ t. cond t (Some b) (find (λ (batch : Batch). same batch.order.batch []) bs)) (empty_not b.order.batch (a 0 b (omega arith))) ∙ nameless bs (λ k d l. a (suc k) d (omega (arith, l)))
-
--- no batch has the empty name
-pub no_batch_of_nothing : (c : Content) → All IsNamed c.batches → batch_of (world_in c) [] ≡ None
-unfolding batch_of
-no_batch_of_nothing c a = nameless c.batches a
 
 name_there : (batches : List Batch) (at : ℕ) → All IsNamed batches → at < length batches → 0 < length (get_or (map name_in batches) at [])
 name_there [] at a l = absurd (omega (arith, l))

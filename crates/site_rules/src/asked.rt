@@ -18,7 +18,8 @@ pub struct Asked<'a> {
     pub deed: &'a Deed,
     /// The names of the things that the deed names, in its order.
     pub names: &'a [Epc],
-    /// Where each of them is, and where the batches of its order rows were first ordered.
+    /// Where the unit and the batch are that it is about, where each of the things is, and where the batches of its
+    /// order rows were first ordered.
     pub found: Found,
     /// The index of the first of them that stands earlier too.
     pub repeat: Option<usize>,

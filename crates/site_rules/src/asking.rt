@@ -1,16 +1,19 @@
 //! What is worked out of a deed before its rules are tried.
 ghost use Rattle.std.specs.Prelude.{◌≡◌, map, IfOk};
+ghost use Rattle.std.specs.List.{position};
 ghost use Rattle.epc_urn.specs.declared.epc.Epc.TheVariants.{Item};
 ghost use Rattle.deed_words.specs.Deeds.{named, items_of, item_of};
+ghost use Rattle.batch_book.specs.Batches.{is_called};
 ghost use Rattle.batch_book.specs.Content.{world_in};
 ghost use Rattle.site_stores.specs.Places.{place_of};
-ghost use Rattle.site_rules.specs.Asked.{IsAsked, listed};
+ghost use Rattle.site_rules.specs.Asked.{IsAsked, IsSubject, listed};
 
 use crate::asked::Asked;
 use crate::found::Found;
 use crate::orders::order_rows;
 use crate::origins::origins_of;
-use deed_words::{Deed, Epcs, Setup, StationId};
+use crate::subject::Subject;
+use deed_words::{BatchId, Deed, Epcs, Setup, StationId};
 use epc_urn::Epc;
 use gs1_element::Code;
 use gs1_keys::{Gtin, Memory, Text20};
@@ -41,18 +44,20 @@ fn of_serials(alloc: Global, gtin: Gtin, serials: &[Text20]) -> Result<Epcs, Mem
     Ok(names)
 }
 
-/// The items of the batch with these serials.
+/// The items of the batch with these serials, where the place of the batch is known.
 #[tactic(auto, unfolding(deed_words::specs::Deeds::items_of))]
 fn of_batch(
     alloc: Global,
     stores: &Stores,
     name: &Text20,
+    batch: Option<BatchId>,
     serials: &[Text20],
 ) -> Result<Epcs, Memory>
+    requires place { batch ≡ position (is_called name.now) stores.now.content.batches }
     ensures { IfOk result (λ names. names ≡ items_of (world_in stores.now.content) name.now serials.now) }
 {
-    match stores.batch(name) {
-        Some(batch) => of_serials(alloc, batch.order.gtin, serials),
+    match batch {
+        Some(batch) => of_serials(alloc, stores.batch_at(batch).order.gtin, serials),
         None => Ok(Epcs::new(alloc)),
     }
 }
@@ -63,13 +68,31 @@ fn of_batch(
 ///
 /// `Memory` where no memory was found.
 #[tactic(auto, unfolding(deed_words::specs::Deeds::named, crate::specs::Asked::listed))]
-pub fn make_names(alloc: Global, stores: &Stores, deed: &Deed) -> Result<Epcs, Memory>
+pub fn make_names(
+    alloc: Global,
+    stores: &Stores,
+    deed: &Deed,
+    subject: &Subject,
+) -> Result<Epcs, Memory>
+    requires subject { IsSubject stores.now.content deed.now subject.now }
     ensures { IfOk result (λ made. listed deed.now made ≡ named (world_in stores.now.content) deed.now) }
 {
     match deed {
         Deed::Commission(_, codes) => of_codes(alloc, codes.as_slice()),
-        Deed::Spoil(name, serials) => of_batch(alloc, stores, name, serials.as_slice()),
-        Deed::Giveback(name, serials) => of_batch(alloc, stores, name, serials.as_slice()),
+        Deed::Spoil(name, serials) => of_batch(
+            alloc,
+            stores,
+            name,
+            subject.batch,
+            serials.as_slice(),
+        ),
+        Deed::Giveback(name, serials) => of_batch(
+            alloc,
+            stores,
+            name,
+            subject.batch,
+            serials.as_slice(),
+        ),
         _ => Ok(Epcs::new(alloc)),
     }
 }
@@ -108,8 +131,8 @@ fn places_of(alloc: Global, stores: &Stores, names: &[Epc]) -> Result<Vec<Option
     Ok(places)
 }
 
-/// A station's deed, with what its rules ask for. `made` are the names made of it, and `drawn` is for a draw how many
-/// serials are drawn of the batch's GTIN: the pool tells it.
+/// A station's deed, with what its rules ask for. `subject` is what was found of what it is about, `made` are the names
+/// made of it, and `drawn` is for a draw how many serials are drawn of the batch's GTIN: the pool tells it.
 ///
 /// # Errors
 ///
@@ -120,9 +143,11 @@ pub fn ask<'a>(
     stores: &'a Stores,
     station: StationId,
     deed: &'a Deed,
+    subject: &Subject,
     made: &'a Epcs,
     drawn: u32,
 ) -> Result<Asked<'a>, Memory>
+    requires subject { IsSubject stores.now.content deed.now subject.now }
     requires made { listed deed.now made.now ≡ named (world_in stores.now.content) deed.now }
     ensures setup { IfOk result (λ asked. asked.setup.now ≡ setup.now) }
     ensures stores { IfOk result (λ asked. asked.stores.now ≡ stores.now) }
@@ -141,7 +166,12 @@ pub fn ask<'a>(
         station,
         deed,
         names,
-        found: Found { places, origins },
+        found: Found {
+            unit: subject.unit,
+            batch: subject.batch,
+            places,
+            origins,
+        },
         repeat,
         drawn,
     })

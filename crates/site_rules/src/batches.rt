@@ -5,9 +5,11 @@ ghost use Rattle.deed_words.specs.World.{World, unit_of};
 ghost use Rattle.deed_words.specs.Deeds.{batch_for, batch_named, batch_with, unit_named};
 ghost use Rattle.deed_words.specs.Tests.{role_forbids, unknown_batch, not_started, started, closed};
 ghost use Rattle.batch_book.specs.Content.{world_in};
+ghost use Rattle.site_rules.specs.Asked.{IsAsked};
 ghost use Rattle.site_rules.specs.Suits.{names_unit, is_about_batch};
 
 use crate::asked::Asked;
+use crate::places::told_unit;
 use deed_words::{Batch, Container, Deed, Phase, Role, Rule};
 use gs1_keys::{Sscc, Text20};
 
@@ -61,6 +63,7 @@ pub(crate) fn role_forbids(asked: &Asked) -> Option<Rule>
 #[tactic(auto, unfolding(deed_words::specs::Deeds::unit_named, crate::specs::Suits::names_unit))]
 pub(crate) fn unit_named(deed: &Deed) -> Option<Sscc>
     ensures some { IfSome result (λ sscc. sscc ≡ unit_named deed.now) }
+    ensures names { IfSome result (λ _. names_unit deed.now ≡ true) }
     ensures none { IfNone result (names_unit deed.now ≡ false) }
 {
     match deed {
@@ -77,21 +80,23 @@ pub(crate) fn unit_named(deed: &Deed) -> Option<Sscc>
 /// That unit, where it is there.
 pub(crate) fn unit_for(asked: &Asked) -> Option<Container>
     requires unit { names_unit asked.now.deed.now ≡ true }
+    requires asked { IsAsked asked.now.stores.now.content asked.now.deed.now asked.now.names.now asked.now.found asked.now.repeat }
     ensures { result ≡ unit_of (world_in asked.now.stores.now.content) (unit_named asked.now.deed.now) }
 {
-    let Some(sscc) = unit_named(asked.deed) else {
+    asked.stores.tell_whole();
+    let Some(unit) = asked.found.unit else {
         return None;
     };
-    asked.stores.unit(&sscc)
+    let row = asked.stores.unit_at(unit);
+    Some(told_unit(asked.stores, &row))
 }
 
 /// The batch that the deed names.
 #[tactic(auto, unfolding(deed_words::specs::Deeds::batch_named, crate::specs::Suits::names_unit, crate::specs::Suits::is_about_batch))]
-fn batch_named(deed: &Deed) -> Option<Text20>
-    requires about { is_about_batch deed.now ≡ true }
+pub(crate) fn batch_named(deed: &Deed) -> Option<Text20>
     ensures some { IfSome result (λ name. (w : World) → batch_named w deed.now ≡ name) }
     ensures none { IfNone result ((w : World) → batch_named w deed.now ≡ batch_with w (unit_named deed.now)) }
-    ensures unit { IfNone result (names_unit deed.now ≡ true) }
+    ensures unit { IfNone result (is_about_batch deed.now ≡ true → names_unit deed.now ≡ true) }
 {
     match deed {
         Deed::Start(name)
@@ -117,6 +122,7 @@ fn batch_named(deed: &Deed) -> Option<Text20>
 #[tactic(auto, unfolding(deed_words::specs::Deeds::batch_with))]
 pub(crate) fn batch_name(asked: &Asked) -> Option<Text20>
     requires about { is_about_batch asked.now.deed.now ≡ true }
+    requires asked { IsAsked asked.now.stores.now.content asked.now.deed.now asked.now.names.now asked.now.found asked.now.repeat }
     ensures some { IfSome result (λ name. batch_named (world_in asked.now.stores.now.content) asked.now.deed.now ≡ name) }
     ensures none { IfNone result (batch_named (world_in asked.now.stores.now.content) asked.now.deed.now ≡ []) }
 {
@@ -133,19 +139,20 @@ pub(crate) fn batch_name(asked: &Asked) -> Option<Text20>
 #[tactic(auto, unfolding(deed_words::specs::Deeds::batch_for))]
 pub(crate) fn batch_for(asked: &Asked) -> Option<Batch>
     requires about { is_about_batch asked.now.deed.now ≡ true }
+    requires asked { IsAsked asked.now.stores.now.content asked.now.deed.now asked.now.names.now asked.now.found asked.now.repeat }
     ensures { result ≡ batch_for (world_in asked.now.stores.now.content) asked.now.deed.now }
 {
-    asked.stores.tell_whole();
-    match batch_name(asked) {
-        Some(name) => asked.stores.batch(&name),
-        None => None,
-    }
+    let Some(batch) = asked.found.batch else {
+        return None;
+    };
+    Some(asked.stores.batch_at(batch))
 }
 
 /// There is no such batch.
 #[tactic(auto, unfolding(deed_words::specs::Tests::unknown_batch, deed_words::specs::Chain::when))]
 pub(crate) fn unknown_batch(asked: &Asked) -> Option<Rule>
     requires about { is_about_batch asked.now.deed.now ≡ true }
+    requires asked { IsAsked asked.now.stores.now.content asked.now.deed.now asked.now.names.now asked.now.found asked.now.repeat }
     ensures { result ≡ unknown_batch asked.now.setup.now (world_in asked.now.stores.now.content) asked.now.station asked.now.deed.now }
 {
     let Some(_) = batch_for(asked) else {
@@ -158,6 +165,7 @@ pub(crate) fn unknown_batch(asked: &Asked) -> Option<Rule>
 #[tactic(auto, unfolding(deed_words::specs::Tests::not_started, deed_words::specs::Tests::is_planned, deed_words::specs::Chain::holds_of, deed_words::specs::Chain::when))]
 pub(crate) fn not_started(asked: &Asked) -> Option<Rule>
     requires about { is_about_batch asked.now.deed.now ≡ true }
+    requires asked { IsAsked asked.now.stores.now.content asked.now.deed.now asked.now.names.now asked.now.found asked.now.repeat }
     ensures { result ≡ not_started asked.now.setup.now (world_in asked.now.stores.now.content) asked.now.station asked.now.deed.now }
 {
     let Some(batch) = batch_for(asked) else {
@@ -174,6 +182,7 @@ pub(crate) fn not_started(asked: &Asked) -> Option<Rule>
 #[tactic(auto, unfolding(deed_words::specs::Tests::started, deed_words::specs::Tests::is_started, deed_words::specs::Chain::holds_of, deed_words::specs::Chain::when))]
 pub(crate) fn started(asked: &Asked) -> Option<Rule>
     requires about { is_about_batch asked.now.deed.now ≡ true }
+    requires asked { IsAsked asked.now.stores.now.content asked.now.deed.now asked.now.names.now asked.now.found asked.now.repeat }
     ensures { result ≡ started asked.now.setup.now (world_in asked.now.stores.now.content) asked.now.station asked.now.deed.now }
 {
     let Some(batch) = batch_for(asked) else {
@@ -190,6 +199,7 @@ pub(crate) fn started(asked: &Asked) -> Option<Rule>
 #[tactic(auto, unfolding(deed_words::specs::Tests::closed, deed_words::specs::Tests::is_closed, deed_words::specs::Chain::holds_of, deed_words::specs::Chain::when))]
 pub(crate) fn closed(asked: &Asked) -> Option<Rule>
     requires about { is_about_batch asked.now.deed.now ≡ true }
+    requires asked { IsAsked asked.now.stores.now.content asked.now.deed.now asked.now.names.now asked.now.found asked.now.repeat }
     ensures { result ≡ closed asked.now.setup.now (world_in asked.now.stores.now.content) asked.now.station asked.now.deed.now }
 {
     let Some(batch) = batch_for(asked) else {

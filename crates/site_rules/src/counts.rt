@@ -1,6 +1,6 @@
 //! The rules on counts: how many a deed asks for, and how many a site takes.
 ghost use Rattle.std.specs.Prelude.{◌≡◌, ◌+◌, ◌<◌, ◌^◌, length, not, nat_lt, true};
-ghost use Rattle.deed_words.specs.Chain.{is_empty, when};
+ghost use Rattle.deed_words.specs.Chain.{when};
 ghost use Rattle.deed_words.specs.Deeds.{batch_named};
 ghost use Rattle.deed_words.specs.Setups.{half_pool, reference_bound};
 ghost use Rattle.deed_words.specs.Tests.{count_range, out_of_range, site_full, full, asked, thin, pool_thin, fresh_rows, few_fresh, sscc_spent};
@@ -12,8 +12,7 @@ ghost use Rattle.site_rules.specs.Suits.{is_draw, is_lend};
 use crate::asked::Asked;
 use crate::batches::batch_for;
 use crate::orders::count_new;
-use deed_words::{Deed, OrderRow, Rule, Setup, What, reference_end};
-use epc_urn::Epc;
+use deed_words::{Deed, Rule, Setup, State, What, reference_end};
 use gs1_keys::Gtin;
 
 /// How many batches a site has at most.
@@ -45,22 +44,6 @@ fn count_range(count: u32) -> Option<Rule>
     None
 }
 
-/// Whether there are no names.
-#[tactic(auto, using(crate::proofs::Ranges::emptiness))]
-fn is_nameless(names: &[Epc]) -> bool
-    ensures { result ≡ is_empty names.now }
-{
-    names.is_empty()
-}
-
-/// Whether there are no orders.
-#[tactic(auto, using(crate::proofs::Ranges::emptiness))]
-fn is_orderless(rows: &[OrderRow]) -> bool
-    ensures { result ≡ is_empty rows.now }
-{
-    rows.is_empty()
-}
-
 /// A list is empty.
 #[tactic(auto, unfolding(deed_words::specs::Chain::when))]
 fn list_range(is_empty: bool) -> Option<Rule>
@@ -81,8 +64,8 @@ pub(crate) fn out_of_range(asked: &Asked) -> Option<Rule>
     match asked.deed {
         Deed::Draw(_, count) => count_range(*count),
         Deed::Lend(_, count) => count_range(*count),
-        Deed::Orders(rows) => list_range(is_orderless(rows.as_slice())),
-        _ => list_range(is_nameless(asked.names)),
+        Deed::Orders(rows) => list_range(rows.as_slice().is_empty()),
+        _ => list_range(asked.names.is_empty()),
     }
 }
 
@@ -149,6 +132,7 @@ fn count_asked(deed: &Deed) -> u32
 pub(crate) fn pool_thin(asked: &Asked) -> Option<Rule>
     requires draw { is_draw asked.now.deed.now ≡ true }
     requires drawn { IsDrawnCount asked.now.stores.now.content asked.now.deed.now asked.now.drawn }
+    requires asked { IsAsked asked.now.stores.now.content asked.now.deed.now asked.now.names.now asked.now.found asked.now.repeat }
     ensures { result ≡ pool_thin asked.now.setup.now (world_in asked.now.stores.now.content) asked.now.station asked.now.deed.now }
 {
     let Some(batch) = batch_for(asked) else {
@@ -165,11 +149,13 @@ pub(crate) fn pool_thin(asked: &Asked) -> Option<Rule>
 /// How many serials of the batch of a lend are Fresh.
 fn fresh(asked: &Asked) -> u32
     requires lend { is_lend asked.now.deed.now ≡ true }
+    requires asked { IsAsked asked.now.stores.now.content asked.now.deed.now asked.now.names.now asked.now.found asked.now.repeat }
     ensures { result ≡ length (fresh_rows (world_in asked.now.stores.now.content) (batch_named (world_in asked.now.stores.now.content) asked.now.deed.now)) }
 {
-    match asked.deed {
-        Deed::Lend(name, _) => asked.stores.fresh_count(name),
-        _ => 0,
+    asked.stores.tell_whole();
+    match asked.found.batch {
+        Some(batch) => asked.stores.items().count(batch, State::Fresh),
+        None => 0,
     }
 }
 
@@ -177,6 +163,7 @@ fn fresh(asked: &Asked) -> u32
 #[tactic(auto, unfolding(deed_words::specs::Tests::few_fresh, deed_words::specs::Chain::when))]
 pub(crate) fn few_fresh(asked: &Asked) -> Option<Rule>
     requires lend { is_lend asked.now.deed.now ≡ true }
+    requires asked { IsAsked asked.now.stores.now.content asked.now.deed.now asked.now.names.now asked.now.found asked.now.repeat }
     ensures { result ≡ few_fresh asked.now.setup.now (world_in asked.now.stores.now.content) asked.now.station asked.now.deed.now }
 {
     let have = fresh(asked);

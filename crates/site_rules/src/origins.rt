@@ -11,7 +11,7 @@ use site_stores::Stores;
 use std::alloc::Global;
 
 /// Where the batch of an order row was first ordered.
-#[derive(Clone, Copy, Debug, PartialEq, Eq)]
+#[derive(Clone, Copy)]
 pub enum Origin {
     /// Before the deed: it is the batch at this place.
     There(u16),

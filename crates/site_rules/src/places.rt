@@ -28,7 +28,7 @@ fn told_row(stores: &Stores, row: &ItemRow) -> Row
 }
 
 /// A unit with its batch's name.
-fn told_unit(stores: &Stores, unit: &UnitRow) -> Container
+pub(crate) fn told_unit(stores: &Stores, unit: &UnitRow) -> Container
     requires { unit.now.batch < length stores.now.content.batches }
     ensures { result ≡ unit_in (batch_names stores.now.content) unit.now }
 {

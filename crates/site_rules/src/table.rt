@@ -8,7 +8,7 @@ ghost use Rattle.site_rules.specs.Rules.{test_of};
 use deed_words::Deed;
 
 /// A rule's test.
-#[derive(Clone, Copy, Debug, PartialEq, Eq)]
+#[derive(Clone, Copy)]
 pub enum Test {
     RoleForbids,
     UnknownProduct,

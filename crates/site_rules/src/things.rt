@@ -1,11 +1,11 @@
 //! The rules on the things that a deed names.
-ghost use Rattle.std.specs.Prelude.{◌≡◌, ℕ, true, map, nat_eq};
-ghost use Rattle.deed_words.specs.Chain.{each, holds_of};
+ghost use Rattle.std.specs.Prelude.{◌≡◌, true, map, nat_eq};
+ghost use Rattle.epc_urn.specs.declared.epc.Epc.TheVariants.{Unit as Box};
+ghost use Rattle.deed_words.specs.Chain.{each, when, holds_of};
 ghost use Rattle.deed_words.specs.World.{batch_of};
-ghost use Rattle.deed_words.specs.Deeds.{batch_named, item_of};
+ghost use Rattle.deed_words.specs.Deeds.{batch_named, batch_for, unit_named, item_of};
 ghost use Rattle.deed_words.specs.Tests.{strays, repeated, unknown_serial, other_batch, fits_order, misfits, wrong_level, wrong_state, lent_to_other, has_parent, not_child};
-ghost use Rattle.deed_words.specs.Setups.{Setup};
-ghost use Rattle.deed_words.specs.declared.deed.Deed.TheVariants.{Container as MakeUnit};
+ghost use Rattle.deed_words.specs.declared.rule.Rule.TheVariants.{WrongLevel};
 ghost use Rattle.batch_book.specs.Content.{world_in};
 ghost use Rattle.site_stores.specs.Places.{place_of};
 ghost use Rattle.site_rules.specs.Asked.{IsAsked};
@@ -13,7 +13,7 @@ ghost use Rattle.site_rules.specs.Rows.{stray};
 ghost use Rattle.site_rules.specs.Suits.{is_about_batch, is_about_unit, names_unit};
 
 use crate::asked::Asked;
-use crate::batches::{batch_name, unit_for, unit_named};
+use crate::batches::{batch_for, batch_name, unit_for, unit_named};
 use crate::checks::{AtHome, Fitting, Inside, Known, Lent, Loose, Standing, first_of};
 use crate::orders::same_expiry;
 use crate::places::is_of;
@@ -75,6 +75,19 @@ pub(crate) fn lent_to_other(asked: &Asked) -> Option<Rule>
     first_of(&check, asked.names, asked.found.places.as_slice())
 }
 
+/// The unit that the deed names, as a thing that stands in another one.
+#[tactic(auto, unfolding(site_stores::specs::Places::place_of))]
+fn unit_node(asked: &Asked) -> Option<Node>
+    requires unit { names_unit asked.now.deed.now ≡ true }
+    requires asked { IsAsked asked.now.stores.now.content asked.now.deed.now asked.now.names.now asked.now.found asked.now.repeat }
+    ensures { result ≡ place_of asked.now.stores.now.content.rows asked.now.stores.now.content.units (Box (unit_named asked.now.deed.now)) }
+{
+    match asked.found.unit {
+        Some(unit) => Some(Node::Unit(unit.0)),
+        None => None,
+    }
+}
+
 /// A thing stands in a unit.
 #[tactic(auto, unfolding(deed_words::specs::Tests::has_parent))]
 pub(crate) fn has_parent(asked: &Asked) -> Option<Rule>
@@ -82,7 +95,7 @@ pub(crate) fn has_parent(asked: &Asked) -> Option<Rule>
     ensures { result ≡ has_parent asked.now.setup.now (world_in asked.now.stores.now.content) asked.now.station asked.now.deed.now }
 {
     match asked.deed {
-        Deed::Unseal(unit) => match asked.stores.parent(&Epc::Unit(*unit)) {
+        Deed::Unseal(unit) => match asked.stores.parent_at(&Epc::Unit(*unit), unit_node(asked)) {
             Some(sscc) => Some(Rule::HasParent(0, sscc)),
             None => None,
         },
@@ -112,31 +125,20 @@ pub(crate) fn not_child(asked: &Asked) -> Option<Rule>
     first_of(&check, asked.names, asked.found.places.as_slice())
 }
 
-/// Whether pallets are made of the batch of the name.
-#[tactic(auto, unfolding(deed_words::specs::Chain::holds_of))]
-fn is_palletless(stores: &Stores, name: &Text20) -> bool
-    ensures { result ≡ holds_of (λ batch. nat_eq batch.order.pallet_size 0) (batch_of (world_in stores.now.content) name.now) }
+/// The batch has no pallets.
+#[tactic(auto, unfolding(deed_words::specs::Chain::holds_of, deed_words::specs::Chain::when))]
+fn no_pallets(asked: &Asked) -> Option<Rule>
+    requires about { is_about_batch asked.now.deed.now ≡ true }
+    requires asked { IsAsked asked.now.stores.now.content asked.now.deed.now asked.now.names.now asked.now.found asked.now.repeat }
+    ensures { result ≡ when (holds_of (λ batch. nat_eq batch.order.pallet_size 0) (batch_for (world_in asked.now.stores.now.content) asked.now.deed.now)) (WrongLevel 0) }
 {
-    match stores.batch(name) {
-        Some(batch) => batch.order.pallet_size == 0,
-        None => false,
+    let Some(batch) = batch_for(asked) else {
+        return None;
+    };
+    if batch.order.pallet_size == 0 {
+        return Some(Rule::WrongLevel(0));
     }
-}
-
-/// The batch has no units of the level.
-#[tactic(auto, unfolding(deed_words::specs::Tests::wrong_level, deed_words::specs::Chain::when))]
-fn wrong_new(stores: &Stores, name: &Text20, level: Level) -> Option<Rule>
-    ensures { (site : Setup) (station : ℕ) → result ≡ wrong_level site (world_in stores.now.content) station (MakeUnit name.now level) }
-{
-    match level {
-        Level::Case => None,
-        Level::Pallet => {
-            if is_palletless(stores, name) {
-                return Some(Rule::WrongLevel(0));
-            }
-            None
-        }
-    }
+    None
 }
 
 /// A thing doesn't go into a unit of the level.
@@ -160,7 +162,10 @@ pub(crate) fn wrong_level(asked: &Asked) -> Option<Rule>
     ensures { result ≡ wrong_level asked.now.setup.now (world_in asked.now.stores.now.content) asked.now.station asked.now.deed.now }
 {
     match asked.deed {
-        Deed::Container(name, level) => wrong_new(asked.stores, name, *level),
+        Deed::Container(_, level) => match level {
+            Level::Case => None,
+            Level::Pallet => no_pallets(asked),
+        },
         _ => {
             let Some(unit) = unit_for(asked) else {
                 return None;
@@ -207,15 +212,16 @@ fn stray(
 fn first_stray(
     stores: &Stores,
     name: &Text20,
+    batch: &Option<Batch>,
     codes: &[Code],
     places: &[Option<Node>],
 ) -> Option<Rule>
+    requires batch { batch.now ≡ batch_of (world_in stores.now.content) name.now }
     requires places { places.now ≡ map (place_of stores.now.content.rows stores.now.content.units) (map item_of codes.now) }
     ensures { result ≡ each codes.now (stray (world_in stores.now.content) name.now) }
 {
-    let batch = stores.batch(name);
     for (index, code) in codes.iter().enumerate() {
-        if let Some(rule) = stray(stores, name, &batch, index as u64, code, places[index]) {
+        if let Some(rule) = stray(stores, name, batch, index as u64, code, places[index]) {
             return Some(rule);
         }
     }
@@ -252,9 +258,11 @@ pub(crate) fn other_batch(asked: &Asked) -> Option<Rule>
 {
     match asked.deed {
         Deed::Commission(name, codes) => {
+            let batch = batch_for(asked);
             first_stray(
                 asked.stores,
                 name,
+                &batch,
                 codes.as_slice(),
                 asked.found.places.as_slice(),
             )

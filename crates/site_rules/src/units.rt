@@ -8,15 +8,14 @@ ghost use Rattle.site_rules.specs.Asked.{IsAsked};
 ghost use Rattle.site_rules.specs.Suits.{names_unit};
 
 use crate::asked::Asked;
-use crate::batches::{batch_for, unit_for, unit_named};
+use crate::batches::{batch_for, unit_for};
 use deed_words::{Batch, Container, Level, Mark, Rule};
-use gs1_keys::Sscc;
-use site_stores::Stores;
 
 /// There is no such unit.
 #[tactic(auto, unfolding(deed_words::specs::Tests::unknown_unit, deed_words::specs::Chain::when))]
 pub(crate) fn unknown_unit(asked: &Asked) -> Option<Rule>
     requires unit { names_unit asked.now.deed.now ≡ true }
+    requires asked { IsAsked asked.now.stores.now.content asked.now.deed.now asked.now.names.now asked.now.found asked.now.repeat }
     ensures { result ≡ unknown_unit asked.now.setup.now (world_in asked.now.stores.now.content) asked.now.station asked.now.deed.now }
 {
     let Some(_) = unit_for(asked) else {
@@ -29,6 +28,7 @@ pub(crate) fn unknown_unit(asked: &Asked) -> Option<Rule>
 #[tactic(auto, unfolding(deed_words::specs::Tests::unit_void, deed_words::specs::Moves::is_void, deed_words::specs::Chain::holds_of, deed_words::specs::Chain::when))]
 pub(crate) fn unit_void(asked: &Asked) -> Option<Rule>
     requires unit { names_unit asked.now.deed.now ≡ true }
+    requires asked { IsAsked asked.now.stores.now.content asked.now.deed.now asked.now.names.now asked.now.found asked.now.repeat }
     ensures { result ≡ unit_void asked.now.setup.now (world_in asked.now.stores.now.content) asked.now.station asked.now.deed.now }
 {
     let Some(unit) = unit_for(asked) else {
@@ -45,6 +45,7 @@ pub(crate) fn unit_void(asked: &Asked) -> Option<Rule>
 #[tactic(auto, unfolding(deed_words::specs::Tests::unit_sealed, deed_words::specs::Moves::is_sealed, deed_words::specs::Chain::holds_of, deed_words::specs::Chain::when))]
 pub(crate) fn unit_sealed(asked: &Asked) -> Option<Rule>
     requires unit { names_unit asked.now.deed.now ≡ true }
+    requires asked { IsAsked asked.now.stores.now.content asked.now.deed.now asked.now.names.now asked.now.found asked.now.repeat }
     ensures { result ≡ unit_sealed asked.now.setup.now (world_in asked.now.stores.now.content) asked.now.station asked.now.deed.now }
 {
     let Some(unit) = unit_for(asked) else {
@@ -61,6 +62,7 @@ pub(crate) fn unit_sealed(asked: &Asked) -> Option<Rule>
 #[tactic(auto, unfolding(deed_words::specs::Tests::unit_not_sealed, deed_words::specs::Moves::is_filling, deed_words::specs::Chain::holds_of, deed_words::specs::Chain::when))]
 pub(crate) fn unit_not_sealed(asked: &Asked) -> Option<Rule>
     requires unit { names_unit asked.now.deed.now ≡ true }
+    requires asked { IsAsked asked.now.stores.now.content asked.now.deed.now asked.now.names.now asked.now.found asked.now.repeat }
     ensures { result ≡ unit_not_sealed asked.now.setup.now (world_in asked.now.stores.now.content) asked.now.station asked.now.deed.now }
 {
     let Some(unit) = unit_for(asked) else {
@@ -84,12 +86,28 @@ fn room_of(batch: &Batch, level: Level) -> u64
     }
 }
 
-/// So many more don't go into the unit.
-#[tactic(auto, unfolding(deed_words::specs::Tests::over, deed_words::specs::Chain::when))]
-fn over(stores: &Stores, sscc: &Sscc, more: u64, unit: &Container, batch: &Batch) -> Option<Rule>
-    ensures { result ≡ over (world_in stores.now.content) sscc.now more unit.now batch.now }
+/// How many things stand in the unit that the deed names.
+fn count_inside(asked: &Asked) -> u64
+    requires unit { names_unit asked.now.deed.now ≡ true }
+    requires asked { IsAsked asked.now.stores.now.content asked.now.deed.now asked.now.names.now asked.now.found asked.now.repeat }
+    ensures { result ≡ length (inside (world_in asked.now.stores.now.content) (unit_named asked.now.deed.now)) }
 {
-    let have = stores.count_inside(sscc);
+    asked.stores.tell_whole();
+    let Some(unit) = asked.found.unit else {
+        return 0;
+    };
+    asked.stores.tree().count(unit)
+}
+
+/// The things that the deed names don't go into the unit, beside what stands in it.
+#[tactic(auto, unfolding(deed_words::specs::Tests::over, deed_words::specs::Chain::when))]
+fn over(asked: &Asked, unit: &Container, batch: &Batch) -> Option<Rule>
+    requires unit { names_unit asked.now.deed.now ≡ true }
+    requires asked { IsAsked asked.now.stores.now.content asked.now.deed.now asked.now.names.now asked.now.found asked.now.repeat }
+    ensures { result ≡ over (world_in asked.now.stores.now.content) (unit_named asked.now.deed.now) (length asked.now.names.now) unit.now batch.now }
+{
+    let have = count_inside(asked);
+    let more = asked.names.len() as u64;
     let room = room_of(batch, unit.level);
     if room < have || room - have < more {
         return Some(Rule::UnitFull(have, room));
@@ -110,27 +128,14 @@ pub(crate) fn unit_full(asked: &Asked) -> Option<Rule>
     let Some(batch) = batch_for(asked) else {
         return None;
     };
-    let Some(sscc) = unit_named(asked.deed) else {
-        return None;
-    };
-    over(asked.stores, &sscc, asked.names.len() as u64, &unit, &batch)
-}
-
-/// How many things stand in the unit that the deed names.
-fn count_inside(asked: &Asked) -> u64
-    requires unit { names_unit asked.now.deed.now ≡ true }
-    ensures { result ≡ length (inside (world_in asked.now.stores.now.content) (unit_named asked.now.deed.now)) }
-{
-    let Some(sscc) = unit_named(asked.deed) else {
-        return 0;
-    };
-    asked.stores.count_inside(&sscc)
+    over(asked, &unit, &batch)
 }
 
 /// Things stand in the unit.
 #[tactic(auto, unfolding(deed_words::specs::Tests::unit_not_empty, deed_words::specs::Chain::when))]
 pub(crate) fn unit_not_empty(asked: &Asked) -> Option<Rule>
     requires unit { names_unit asked.now.deed.now ≡ true }
+    requires asked { IsAsked asked.now.stores.now.content asked.now.deed.now asked.now.names.now asked.now.found asked.now.repeat }
     ensures { result ≡ unit_not_empty asked.now.setup.now (world_in asked.now.stores.now.content) asked.now.station asked.now.deed.now }
 {
     let have = count_inside(asked);
@@ -144,6 +149,7 @@ pub(crate) fn unit_not_empty(asked: &Asked) -> Option<Rule>
 #[tactic(auto, unfolding(deed_words::specs::Tests::nothing_inside, deed_words::specs::Chain::when), using(crate::proofs::Ranges::emptiness))]
 pub(crate) fn nothing_inside(asked: &Asked) -> Option<Rule>
     requires unit { names_unit asked.now.deed.now ≡ true }
+    requires asked { IsAsked asked.now.stores.now.content asked.now.deed.now asked.now.names.now asked.now.found asked.now.repeat }
     ensures { result ≡ nothing_inside asked.now.setup.now (world_in asked.now.stores.now.content) asked.now.station asked.now.deed.now }
 {
     if count_inside(asked) == 0 {

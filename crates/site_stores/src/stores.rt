@@ -3,18 +3,17 @@ ghost use Rattle.std.specs.Prelude.{◌≡◌, ◌+◌, ◌<◌, ◌≤◌, [], 
 ghost use Rattle.std.specs.List.{position, slice_get};
 ghost use Rattle.deed_words.specs.Accounts.{finding};
 ghost use Rattle.deed_words.specs.Setups.{Setup};
-ghost use Rattle.deed_words.specs.Tests.{fresh_rows};
-ghost use Rattle.deed_words.specs.World.{batch_of, row_of, unit_of, parent, inside};
+ghost use Rattle.deed_words.specs.World.{row_of, unit_of, parent, inside};
 ghost use Rattle.item_store.specs.Rows.{is_named, IsLined};
 ghost use Rattle.pack_tree.specs.Units.{is_coded};
 ghost use Rattle.batch_book.specs.Batches.{is_called};
-ghost use Rattle.batch_book.specs.Content.{world_in};
+ghost use Rattle.batch_book.specs.Content.{world_in, name_at};
 ghost use Rattle.site_stores.specs.Holding.{IsWhole, IsWithin};
 ghost use Rattle.site_stores.specs.Places.{place_of};
 
 use crate::told::{told_row, told_unit};
 use batch_book::Book;
-use deed_words::{Batch, BatchId, Container, Finding, ItemId, Row, State, UnitId};
+use deed_words::{Batch, BatchId, Container, Finding, ItemId, Row, UnitId};
 use epc_urn::Epc;
 use gs1_keys::{Gtin, Memory, Sscc, Text20};
 use item_store::{ItemRow, Items};
@@ -110,16 +109,6 @@ impl Stores {
         ensures { slice_get self.now.content.batches batch ≡ Some result }
     {
         self.book.batch(batch)
-    }
-
-    /// The batch of the name.
-    pub fn batch(&self, name: &Text20) -> Option<Batch>
-        ensures { result ≡ batch_of (world_in self.now.content) name.now }
-    {
-        let Some(batch) = self.book.find(name) else {
-            return None;
-        };
-        Some(self.book.batch(batch))
     }
 
     /// The place of the row of the name.
@@ -229,25 +218,12 @@ impl Stores {
         self.tree.count(unit)
     }
 
-    /// How many rows of the batch of the name are Fresh.
-    pub fn fresh_count(&self, name: &Text20) -> u32
-        ensures { result ≡ length (fresh_rows (world_in self.now.content) name.now) }
+    /// Why the batch at a place isn't accounted for: nothing where it is. The lines are looked for among so many
+    /// stations. It costs a look at what the batch has, not at what the site has.
+    pub fn finding(&self, batch: BatchId, stations: u8) -> Option<Finding>
+        requires { batch < length self.now.content.batches }
+        ensures { (site : Setup) → length site.stations ≡ stations → result ≡ finding site (world_in self.now.content) (name_at self.now.content.batches batch) }
     {
-        self.book.tell_named();
-        let Some(batch) = self.book.find(name) else {
-            return 0;
-        };
-        self.items.count(batch, State::Fresh)
-    }
-
-    /// Why the batch of the name isn't accounted for: nothing where it is, and where there is no such batch. The lines
-    /// are looked for among so many stations. It costs a look at what the batch has, not at what the site has.
-    pub fn finding(&self, name: &Text20, stations: u8) -> Option<Finding>
-        ensures { (site : Setup) → length site.stations ≡ stations → result ≡ finding site (world_in self.now.content) name.now }
-    {
-        let Some(batch) = self.book.find(name) else {
-            return None;
-        };
         match self
             .book
             .accounted(&self.items, &self.tree, batch, stations)

@@ -14,16 +14,16 @@ returns-in-Ok-clause-makes g c =
     let s = c.in-Ok.store in
     let e = c.in-Ok.ensures in
     let into = c.into_devices.ensures in
-    let t = c.tell_ready.ensures.put in
+    let t = c.tell_text.ensures.put in
     let d = g.D.Disk in
     let images : (k : List ℕ) → d.image s.journal.disk k → Held c.args.setup [] k =
     λ k left. holds_none c.args.setup s.site.setup (store_state s) k e.setup e.made (sound_holds (d.image s.journal.disk) s.journal.end s.journal.pending s.site (in_order s.pending.items) (vec_capacity s.log - vec_len s.log) k e.open.sound left) in
-    make_back d g.C.Clock g.W.Words c.args.setup c.args.devices c.into_devices.result s.journal.disk s.clock s.words _ _ c.tell_ready.result into.disk into.clock into.words
+    make_back d g.C.Clock g.W.Words c.args.setup c.args.devices c.into_devices.result s.journal.disk s.clock s.words _ _ c.tell_text.result into.disk into.clock into.words
     (record {
       put = t.0;
       held = t.1;
-      ends = ready_ends d c.args.setup c.args.devices.disk s.journal.disk c.tell_ready.result t.0 t.2 (record { none = e.none; images = images });
-      cause = ready_disk c.tell_ready.result t.0 _ _ t.2 e.kept;
+      ends = ready_ends d c.args.setup c.args.devices.disk s.journal.disk c.tell_text.result t.0 t.2 (record { none = e.none; images = images });
+      cause = ready_disk c.tell_text.result t.0 _ _ t.2 e.kept;
       disk = inr e.first_write;
       clock = e.devices.0;
       words = e.devices.1;

@@ -1,4 +1,5 @@
 use Rattle.site_console.proofs.Completing.{obeyed_run, obeyed_init}
+use Rattle.site_console.proofs.LookDone.{obeyed_look}
 use Rattle.site_console.proofs.Statuses.{is_status, bad_words, refused_ends}
 use Rattle.site_console.proofs.top.site_top.Goals as goal
 
@@ -32,3 +33,7 @@ pub returns-clause-inits : goal.returns-clause-inits
 returns-clause-inits g c = λ says sound can.
     let session = rw (says) at c.obey-ending.ensures.session in
     obeyed_init g.D.Disk g.C.Clock g.W.Words c.one_history.ensures.once c.args.devices c.obey-ending.result.1 _ _ _ _ _ _ (record { bytes = g.O.Sink.held c.end_with.new.out; faults = g.O.Sink.write_faults c.end_with.new.out }) c.obey-ending.result.0 c.end_with.result c.end_with.ensures.status session c.end_with.ensures.later sound can
+
+pub returns-clause-looks : goal.returns-clause-looks
+returns-clause-looks g c = λ asked sound loadable.
+    obeyed_look g.D.Disk g.C.Clock g.W.Words c.one_history.ensures.once _ c.args.devices c.obey-ending.result.1 _ _ _ _ _ _ (record { bytes = g.O.Sink.held c.end_with.new.out; faults = g.O.Sink.write_faults c.end_with.new.out }) c.obey-ending.result.0 c.end_with.result asked c.end_with.ensures.status c.obey-ending.ensures.session c.end_with.ensures.later sound loadable

@@ -2,6 +2,10 @@ use Rattle.std.proofs.Common.{[], sym, ap, ◌∙◌}
 use Rattle.std.proofs.KnownBytes.{Consumes-nil}
 use Rattle.deed_words.specs.Rules.{broken}
 use Rattle.batch_book.specs.Content.{world_in}
+use Rattle.deed_words.specs.Deeds.{batch_named}
+use Rattle.site_rules.specs.Suits.{is_about_batch}
+use Rattle.site_deeds.proofs.OfDraw.{draw_batch}
+use Rattle.site_deeds.proofs.OfFound.{batch_some, batch_place}
 use Rattle.site_deeds.proofs.OfDecision.{refused_decides, other_decides, none_taken, no_room_needed, no_draw, breaks, allows}
 use Rattle.site_deeds.proofs.deciding.decide.Goals as goal
 
@@ -35,3 +39,13 @@ returns-in-Err-clause-decides g c = ([], Consumes-nil (g.W.Words.words_left c.ar
 
 pub returns-clause-decides : goal.returns-clause-decides
 returns-clause-decides g c = ([], Consumes-nil (g.W.Words.words_left c.args.words.now), none_taken _ _)
+
+pub batch_found-batch-requires : goal.batch_found-batch-requires
+unfolding is_about_batch batch_named
+batch_found-batch-requires g c =
+    let j = (allows c.args.setup.now c.args.stores.now.content c.args.station c.args.deed.now c.in-Ok-Allowed.field-0 c.in-Ok-Allowed.found c.in-Ok-Allowed.ensures c.in-Ok-Allowed.field-0-is) in
+    record { there = batch_some c.args.stores.now.content c.args.deed.now c.in-Ok-Allowed.found j.1 c.in-Draw.name (ap is_about_batch c.in-Draw.is) (ap (batch_named (world_in c.args.stores.now.content)) c.in-Draw.is) (draw_batch c.args.setup.now (world_in c.args.stores.now.content) c.args.station c.in-Draw.name c.in-Draw.count (ap (broken c.args.setup.now (world_in c.args.stores.now.content) c.args.station) (sym c.in-Draw.is) ∙ j.0)) }
+
+pub decide_draw-requires-clause-place : goal.decide_draw-requires-clause-place
+unfolding is_about_batch batch_named
+decide_draw-requires-clause-place g c = batch_place c.args.stores.now.content c.args.deed.now c.in-Ok-Allowed.found (allows c.args.setup.now c.args.stores.now.content c.args.station c.args.deed.now c.in-Ok-Allowed.field-0 c.in-Ok-Allowed.found c.in-Ok-Allowed.ensures c.in-Ok-Allowed.field-0-is).1 c.in-Draw.name (ap is_about_batch c.in-Draw.is) (ap (batch_named (world_in c.args.stores.now.content)) c.in-Draw.is) c.batch_found-batch.result c.batch_found-batch.ensures

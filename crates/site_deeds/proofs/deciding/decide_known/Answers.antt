@@ -2,6 +2,10 @@ use Rattle.std.proofs.Common.{List, sym, ap, ◌∙◌, subst}
 use Rattle.deed_words.specs.Names.{Text}
 use Rattle.deed_words.specs.Rules.{broken}
 use Rattle.batch_book.specs.Content.{world_in}
+use Rattle.deed_words.specs.Deeds.{batch_named}
+use Rattle.site_rules.specs.Suits.{is_about_batch}
+use Rattle.site_deeds.proofs.OfDraw.{draw_batch}
+use Rattle.site_deeds.proofs.OfFound.{batch_some, batch_place}
 use Rattle.site_deeds.specs.Decisions.{IsDecided}
 use Rattle.site_deeds.proofs.OfDecision.{refused_decided, refused_none, other_none, some_drawn, no_draw, breaks, allows}
 use Rattle.site_deeds.proofs.deciding.decide_known.Goals as goal
@@ -24,3 +28,13 @@ pub decide_other-requires : goal.decide_other-requires
 decide_other-requires c =
     let j = (allows c.args.setup.now c.args.stores.now.content c.args.station c.args.deed.now c.in-Ok-Allowed.field-0 c.in-Ok-Allowed.found c.in-Ok-Allowed.ensures c.in-Ok-Allowed.field-0-is) in
     record { proper = c.requires.proper; sound = c.requires.sound; allowed = j.0; found = j.1; other = no_draw c.args.deed.now c.in_default.not-Draw }
+
+pub batch_found-batch-requires : goal.batch_found-batch-requires
+unfolding is_about_batch batch_named
+batch_found-batch-requires c =
+    let j = (allows c.args.setup.now c.args.stores.now.content c.args.station c.args.deed.now c.in-Ok-Allowed.field-0 c.in-Ok-Allowed.found c.in-Ok-Allowed.ensures c.in-Ok-Allowed.field-0-is) in
+    record { there = batch_some c.args.stores.now.content c.args.deed.now c.in-Ok-Allowed.found j.1 c.in-Draw.name (ap is_about_batch c.in-Draw.is) (ap (batch_named (world_in c.args.stores.now.content)) c.in-Draw.is) (draw_batch c.args.setup.now (world_in c.args.stores.now.content) c.args.station c.in-Draw.name c.in-Draw.count (ap (broken c.args.setup.now (world_in c.args.stores.now.content) c.args.station) (sym c.in-Draw.is) ∙ j.0)) }
+
+pub decide_known_draw-requires-clause-place : goal.decide_known_draw-requires-clause-place
+unfolding is_about_batch batch_named
+decide_known_draw-requires-clause-place c = batch_place c.args.stores.now.content c.args.deed.now c.in-Ok-Allowed.found (allows c.args.setup.now c.args.stores.now.content c.args.station c.args.deed.now c.in-Ok-Allowed.field-0 c.in-Ok-Allowed.found c.in-Ok-Allowed.ensures c.in-Ok-Allowed.field-0-is).1 c.in-Draw.name (ap is_about_batch c.in-Draw.is) (ap (batch_named (world_in c.args.stores.now.content)) c.in-Draw.is) c.batch_found-batch.result c.batch_found-batch.ensures

@@ -7,11 +7,8 @@ use Rattle.deed_words.specs.declared.deed.Deed.TheVariants.{Draw}
 use Rattle.batch_book.specs.Content.{world_in}
 use Rattle.site_stores.specs.Holding.{Held}
 use Rattle.site_deeds.proofs.OfDecision.{as_before, does_draw, draw_decided, room_left}
-use Rattle.site_deeds.proofs.OfDraw.{draw_batch, rows_left}
+use Rattle.site_deeds.proofs.OfDraw.{rows_left}
 use Rattle.site_deeds.proofs.deciding.decide_planned.Goals as goal
-
-pub draw-requires-clause-there : goal.draw-requires-clause-there
-draw-requires-clause-there c = draw_batch c.args.setup.now (world_in c.args.stores.now.content) c.args.station c.args.name.now c.args.count c.requires.allowed
 
 pub draw-requires-clause-new : goal.draw-requires-clause-new
 draw-requires-clause-new c =

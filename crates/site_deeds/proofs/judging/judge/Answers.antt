@@ -16,4 +16,4 @@ unfolding IsJudged
 returns c =
     let e = c.in_ok-asked.ensures in
     let k = c.args.stores.now.content in
-    ((λ z. broken (sym e.setup z) (world_in (sym e.stores z).content) (sym e.station z) (sym e.deed z)) ∙ sym c.broken.ensures ∙ c.in-None.is, record { places_are = e.asked.places_are ∙ ap (map (place_of k.rows k.units)) e.asked.names_are; origins_are = e.asked.origins_are })
+    ((λ z. broken (sym e.setup z) (world_in (sym e.stores z).content) (sym e.station z) (sym e.deed z)) ∙ sym c.broken.ensures ∙ c.in-None.is, record { unit_is = e.asked.unit_is; batch_is = e.asked.batch_is; places_are = e.asked.places_are ∙ ap (map (place_of k.rows k.units)) e.asked.names_are; origins_are = e.asked.origins_are })

@@ -2,45 +2,45 @@ use Rattle.std.proofs.Common.{sym, ap, ◌∙◌}
 use Rattle.site_rules.specs.Suits.{suits}
 use Rattle.site_rules.proofs.telling.says.Goals as goal
 
-pub unknown_batch-requires : goal.unknown_batch-requires
+pub unknown_batch-requires-clause-about : goal.unknown_batch-requires-clause-about
 unfolding suits
-unknown_batch-requires c = record { about = sym (ap (suits c.args.asked.now.deed.now) c.in-UnknownBatch.is) ∙ c.requires.suited }
+unknown_batch-requires-clause-about c = sym (ap (suits c.args.asked.now.deed.now) c.in-UnknownBatch.is) ∙ c.requires.suited
 
-pub unknown_unit-requires : goal.unknown_unit-requires
+pub unknown_unit-requires-clause-unit : goal.unknown_unit-requires-clause-unit
 unfolding suits
-unknown_unit-requires c = record { unit = sym (ap (suits c.args.asked.now.deed.now) c.in-UnknownUnit.is) ∙ c.requires.suited }
+unknown_unit-requires-clause-unit c = sym (ap (suits c.args.asked.now.deed.now) c.in-UnknownUnit.is) ∙ c.requires.suited
 
-pub not_started-requires : goal.not_started-requires
+pub not_started-requires-clause-about : goal.not_started-requires-clause-about
 unfolding suits
-not_started-requires c = record { about = sym (ap (suits c.args.asked.now.deed.now) c.in-NotStarted.is) ∙ c.requires.suited }
+not_started-requires-clause-about c = sym (ap (suits c.args.asked.now.deed.now) c.in-NotStarted.is) ∙ c.requires.suited
 
-pub started-requires : goal.started-requires
+pub started-requires-clause-about : goal.started-requires-clause-about
 unfolding suits
-started-requires c = record { about = sym (ap (suits c.args.asked.now.deed.now) c.in-Started.is) ∙ c.requires.suited }
+started-requires-clause-about c = sym (ap (suits c.args.asked.now.deed.now) c.in-Started.is) ∙ c.requires.suited
 
-pub closed-requires : goal.closed-requires
+pub closed-requires-clause-about : goal.closed-requires-clause-about
 unfolding suits
-closed-requires c = record { about = sym (ap (suits c.args.asked.now.deed.now) c.in-Closed.is) ∙ c.requires.suited }
+closed-requires-clause-about c = sym (ap (suits c.args.asked.now.deed.now) c.in-Closed.is) ∙ c.requires.suited
 
-pub unit_void-requires : goal.unit_void-requires
+pub unit_void-requires-clause-unit : goal.unit_void-requires-clause-unit
 unfolding suits
-unit_void-requires c = record { unit = sym (ap (suits c.args.asked.now.deed.now) c.in-UnitVoid.is) ∙ c.requires.suited }
+unit_void-requires-clause-unit c = sym (ap (suits c.args.asked.now.deed.now) c.in-UnitVoid.is) ∙ c.requires.suited
 
-pub unit_sealed-requires : goal.unit_sealed-requires
+pub unit_sealed-requires-clause-unit : goal.unit_sealed-requires-clause-unit
 unfolding suits
-unit_sealed-requires c = record { unit = sym (ap (suits c.args.asked.now.deed.now) c.in-UnitSealed.is) ∙ c.requires.suited }
+unit_sealed-requires-clause-unit c = sym (ap (suits c.args.asked.now.deed.now) c.in-UnitSealed.is) ∙ c.requires.suited
 
-pub unit_not_sealed-requires : goal.unit_not_sealed-requires
+pub unit_not_sealed-requires-clause-unit : goal.unit_not_sealed-requires-clause-unit
 unfolding suits
-unit_not_sealed-requires c = record { unit = sym (ap (suits c.args.asked.now.deed.now) c.in-UnitNotSealed.is) ∙ c.requires.suited }
+unit_not_sealed-requires-clause-unit c = sym (ap (suits c.args.asked.now.deed.now) c.in-UnitNotSealed.is) ∙ c.requires.suited
 
 pub pool_thin-requires-clause-draw : goal.pool_thin-requires-clause-draw
 unfolding suits
 pool_thin-requires-clause-draw c = sym (ap (suits c.args.asked.now.deed.now) c.in-PoolThin.is) ∙ c.requires.suited
 
-pub few_fresh-requires : goal.few_fresh-requires
+pub few_fresh-requires-clause-lend : goal.few_fresh-requires-clause-lend
 unfolding suits
-few_fresh-requires c = record { lend = sym (ap (suits c.args.asked.now.deed.now) c.in-FewFresh.is) ∙ c.requires.suited }
+few_fresh-requires-clause-lend c = sym (ap (suits c.args.asked.now.deed.now) c.in-FewFresh.is) ∙ c.requires.suited
 
 pub other_batch-requires-clause-about : goal.other_batch-requires-clause-about
 unfolding suits
@@ -58,14 +58,14 @@ pub unit_full-requires-clause-unit : goal.unit_full-requires-clause-unit
 unfolding suits
 unit_full-requires-clause-unit c = sym (ap (suits c.args.asked.now.deed.now) c.in-UnitFull.is) ∙ c.requires.suited
 
-pub unit_not_empty-requires : goal.unit_not_empty-requires
+pub unit_not_empty-requires-clause-unit : goal.unit_not_empty-requires-clause-unit
 unfolding suits
-unit_not_empty-requires c = record { unit = sym (ap (suits c.args.asked.now.deed.now) c.in-UnitNotEmpty.is) ∙ c.requires.suited }
+unit_not_empty-requires-clause-unit c = sym (ap (suits c.args.asked.now.deed.now) c.in-UnitNotEmpty.is) ∙ c.requires.suited
 
-pub nothing_inside-requires : goal.nothing_inside-requires
+pub nothing_inside-requires-clause-unit : goal.nothing_inside-requires-clause-unit
 unfolding suits
-nothing_inside-requires c = record { unit = sym (ap (suits c.args.asked.now.deed.now) c.in-NothingInside.is) ∙ c.requires.suited }
+nothing_inside-requires-clause-unit c = sym (ap (suits c.args.asked.now.deed.now) c.in-NothingInside.is) ∙ c.requires.suited
 
-pub not_accounted-requires : goal.not_accounted-requires
+pub not_accounted-requires-clause-close : goal.not_accounted-requires-clause-close
 unfolding suits
-not_accounted-requires c = record { close = sym (ap (suits c.args.asked.now.deed.now) c.in-NotAccounted.is) ∙ c.requires.suited }
+not_accounted-requires-clause-close c = sym (ap (suits c.args.asked.now.deed.now) c.in-NotAccounted.is) ∙ c.requires.suited

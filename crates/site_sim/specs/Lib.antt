@@ -1,0 +1,9 @@
+pub mod Example
+pub mod Requests
+pub mod Asking
+pub mod Knowing
+pub mod Sends
+pub mod Standing
+pub mod Supplies
+pub mod Results
+pub mod Simulated
