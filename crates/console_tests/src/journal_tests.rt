@@ -21,14 +21,14 @@ const OLD_DRAW: &[u8] =
 pub(crate) const SITE: &[u8] =
     b"\x01PACKSITE\0\0\0\x5a\x020614141000012\x070614141\x01\0\0\0\0\0\0\0\x01+00:00\0\x0200614141123452\x07\x0a\x0180614141123458\x07\x06\x01\x04\x02P1\x01\x02L1\x02\x02L2\x02\x02Q1\x03";
 
-const ORDER: &[u8] =
+pub(crate) const ORDER: &[u8] =
     b"\x01\0\0\0\x3b\x81\0\0\0\0\0\0\0\0\x01\0\0\0\x01\x9b\x76\xda\xa8\0\0\x01\x02B680614141123458\x04LOT6271231\0\0\0\x02\0\x02\0\0\0\0";
 
-const DRAW: &[u8] =
+pub(crate) const DRAW: &[u8] =
     b"\x01\0\0\0\x2c\x81\0\0\0\0\0\0\0\0\x02\0\0\0\x01\x9b\x76\xda\xa8\0\0\x04\x02B6\0\0\0\x02\0\x02\x06000005\x06000007";
 
 /// A gate that is closed.
-const END: &[u8] = b"\0";
+pub(crate) const END: &[u8] = b"\0";
 
 /// The journal of version 1.
 fn old_journal(rt: &impl Abort, alloc: Global) -> Vec<u8> {

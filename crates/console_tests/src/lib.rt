@@ -8,6 +8,8 @@ mod closing_tests;
 #[cfg(test)]
 mod console_tests;
 #[cfg(test)]
+mod group_tests;
+#[cfg(test)]
 mod items_tests;
 #[cfg(test)]
 mod journal_tests;

@@ -1,0 +1,4 @@
+mod Named
+mod Numbering
+mod Due
+mod Floats

@@ -1,0 +1,5 @@
+pub mod Saying
+pub mod Bodies
+pub mod Told
+pub mod Batches
+pub mod Things

@@ -1,0 +1,7 @@
+mod Goings
+mod Finishing
+mod Sessions
+mod Seen
+mod Told
+mod Completing
+mod Chains

@@ -1,0 +1,5 @@
+pub mod Exchanges
+pub mod Serving
+pub mod Closing
+pub mod Chain
+pub mod Laws

@@ -1,0 +1,9 @@
+pub mod Desked
+mod Stationed
+mod Printed
+pub mod Stepped
+pub mod Counted
+pub mod Turning
+mod Taken
+mod Telling
+mod Responses

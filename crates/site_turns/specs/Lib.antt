@@ -1,0 +1,10 @@
+pub mod Posted
+pub mod Posts
+pub mod Origins
+pub mod Outcomes
+pub mod Answering
+pub mod Groups
+pub mod Turns
+pub mod Taking
+pub mod Shown
+pub mod Waiting
