@@ -170,7 +170,7 @@ pub(crate) const WHOLE_BATCH: [Row; 34] = [
 ];
 
 /// Two batches of two products at the same time, each by a line of its own, with cases and pallets.
-const TWO_BATCHES: [Row; 40] = [
+pub(crate) const TWO_BATCHES: [Row; 40] = [
     (
         "P1",
         r#"{"do":"orders","csv":"batch,gtin,lot,expiry,quantity,case,pallet\nC7,00614141123452,LA,2027-12-31,8,2,2\nC8,80614141123458,LB,2027-12,2,1,2\n"}"#,

@@ -1,11 +1,11 @@
-//! A whole batch on a site is taken back, the last request first, and made again.
+//! A whole batch on a site is taken back, the last request first, and made again; and so are two batches at once.
 ghost use Rattle.std.specs.Prelude.{◌≡◌, ◌+◌, ◌<◌, ◌∷◌, [], length};
 ghost use Rattle.deed_words.specs.History.{own, world_of};
 ghost use Rattle.deed_words.specs.Proper.{IsProperAsk};
 ghost use Rattle.site_core.specs.Plans.{IsNext};
 ghost use Rattle.site_core.specs.Rooms.{HasRoomFor};
 
-use crate::batch_tests::WHOLE_BATCH;
+use crate::batch_tests::{TWO_BATCHES, WHOLE_BATCH};
 use crate::program::{E1, MOMENT};
 use crate::talk::{Row, numbered, written_out};
 use deed_json::read_body;
@@ -168,6 +168,9 @@ fn expect_view(rt: &impl Abort, site: &Site) {
 fn take_a_batch_back(rt: &impl Abort, alloc: Global, site: &mut Site) {
     there_and_back(rt, alloc, site, &mut words(rt, alloc), &WHOLE_BATCH);
     expect_nothing(rt, site, "B7");
+    there_and_back(rt, alloc, site, &mut words(rt, alloc), &TWO_BATCHES);
+    expect_nothing(rt, site, "C7");
+    expect_nothing(rt, site, "C8");
     go_there(rt, alloc, site, &mut words(rt, alloc), &WHOLE_BATCH);
     assert!(rt; site.entries() == 34);
     expect_view(rt, site);
