@@ -5,6 +5,7 @@ use Rattle.gs1_keys.specs.Keys.{text_of}
 use Rattle.numerals.specs.Numbers.{number_in}
 use Rattle.command_words.specs.Texts.{are_words}
 use Rattle.command_words.specs.declared.command.Command.{Command}
+use Rattle.command_words.specs.declared.command.ServeWords.{ServeWords}
 use Rattle.command_words.specs.declared.command.Command.TheVariants.{Init, Run, Report, Export, Check, Log, Simulate, Serve}
 
 abbrev Text : Type 0
@@ -82,7 +83,7 @@ serve_in port workers connections after = do
   w ← ranged 1 64 workers_word
   connections_word ← connections
   n ← ranged 1 1000000 connections_word
-  end_at after (Serve p w n)
+  end_at after (Serve (record { port = p; workers = w; connections = n }))
 
 -- the command of this name, with the words behind it
 unfoldable pub named : Text → Option Text → Option Text → Option Text → Option Text → Option Command
@@ -105,6 +106,10 @@ named_at None second third fourth fifth = None
 unfoldable pub command_of : List Text → Option Command
 command_of words = if are_words words then named_at (slice_get words 0) (slice_get words 1) (slice_get words 2) (slice_get words 3) (slice_get words 4) else None
 
+-- each number of `serve` is in its range
+abbrev pub AreRanged : ServeWords → Type 0
+AreRanged words = (1 ≤ words.port) × (1 ≤ words.workers) × (words.workers ≤ 64) × (1 ≤ words.connections) × (words.connections ≤ 1000000)
+
 -- each number of a command is in its range
 abbrev pub IsRanged : Command → Type 0
 IsRanged Init = Unit {0}
@@ -114,4 +119,13 @@ IsRanged (Export batch from count) = (1 ≤ from) × (1 ≤ count) × (count ≤
 IsRanged Check = Unit {0}
 IsRanged (Log from count) = (1 ≤ from) × (1 ≤ count) × (count ≤ 10000)
 IsRanged (Simulate seed count) = (1 ≤ count) × (count ≤ 200000)
-IsRanged (Serve port workers connections) = (1 ≤ port) × (1 ≤ workers) × (workers ≤ 64) × (1 ≤ connections) × (connections ≤ 1000000)
+IsRanged (Serve words) = AreRanged words
+
+-- the numbers of `serve`, if it is that command
+abbrev pub serving : Command → Option ServeWords
+serving (Serve words) = Some words
+serving command = None
+
+-- the numbers of `serve`, if the words are those of it
+abbrev pub serving_of : List Text → Option ServeWords
+serving_of words = command_of words >>= serving

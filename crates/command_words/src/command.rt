@@ -39,12 +39,16 @@ pub enum Command {
         count: u32,
     },
     /// `serve PORT WORKERS CONNECTIONS`: serves stations over HTTP.
-    Serve {
-        /// The port on 127.0.0.1, from 1.
-        port: u16,
-        /// How many workers, 1 to 64.
-        workers: u8,
-        /// How many connections, 1 to 1,000,000.
-        connections: u32,
-    },
+    Serve(ServeWords),
+}
+
+/// The numbers of `serve`.
+#[derive(Clone, Copy, Debug, PartialEq, Eq)]
+pub struct ServeWords {
+    /// The port on 127.0.0.1, from 1.
+    pub port: u16,
+    /// How many workers, 1 to 64.
+    pub workers: u8,
+    /// How many connections, 1 to 1,000,000.
+    pub connections: u32,
 }

@@ -4,10 +4,12 @@
 
 mod command;
 mod reading;
+mod serving;
 mod texts;
 
-pub use command::Command;
+pub use command::{Command, ServeWords};
 pub use reading::read_command;
+pub use serving::serve_words;
 
 #[cfg(test)]
 mod tests;

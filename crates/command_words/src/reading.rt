@@ -2,7 +2,7 @@
 ghost use Rattle.std.specs.Prelude.{◌≡◌, ◌≤◌, IfOk, IfSome, map, option_map, string_bytes};
 ghost use Rattle.command_words.specs.Commands.{IsRanged, command_of, end_at, export_in, init_in, log_in, name_in, named, ranged, report_in, serve_in, simulate_in};
 
-use crate::command::Command;
+use crate::command::{Command, ServeWords};
 use crate::texts::texts_of;
 use gs1_keys::{Memory, Text20};
 use numerals::number;
@@ -113,11 +113,11 @@ fn serve(
     let connections = number_between(connections?, 1, 1_000_000)?;
     ends(
         after,
-        Command::Serve {
+        Command::Serve(ServeWords {
             port,
             workers,
             connections,
-        },
+        }),
     )
 }
 

@@ -1,4 +1,4 @@
-use crate::{Command, read_command};
+use crate::{Command, ServeWords, read_command, serve_words};
 use gs1_keys::Text20;
 use std::alloc::Global;
 use std::test::Fail;
@@ -50,11 +50,11 @@ fn commands_are_read(rt: HostRuntime) -> Result<(), Fail> {
         ("sim 007 1", Command::Simulate { seed: 7, count: 1 }),
         (
             "serve 8080 1 5",
-            Command::Serve {
+            Command::Serve(ServeWords {
                 port: 8080,
                 workers: 1,
                 connections: 5,
-            },
+            }),
         ),
     ] {
         assert!(rt; command(alloc, line)? == Some(wanted));
@@ -93,5 +93,29 @@ fn other_words_are_no_command(rt: HostRuntime) -> Result<(), Fail> {
         assert!(rt; command(alloc, line)?.is_none());
     }
     assert!(rt; matches!(read_command(alloc, &[]), Ok(None)));
+    Ok(())
+}
+
+#[test]
+fn the_words_of_serve(rt: HostRuntime) -> Result<(), Fail> {
+    let alloc = rt.alloc();
+    for (line, wanted) in [
+        (
+            "serve 8080 1 5",
+            Some(ServeWords {
+                port: 8080,
+                workers: 1,
+                connections: 5,
+            }),
+        ),
+        ("serve 0 1 5", None),
+        ("run", None),
+    ] {
+        let words = words(alloc, line)?;
+        match serve_words(alloc, words.as_slice()) {
+            Ok(numbers) => assert!(rt; numbers == wanted),
+            Err(_) => return Err(Fail::from("want of memory")),
+        }
+    }
     Ok(())
 }

@@ -161,20 +161,37 @@ fn amend<D: Disk, C: Clock, W: Words>(
     submit(rt, alloc, store, asks)
 }
 
-fn expect_one_record(rt: &impl Abort, alloc: Global) {
-    let mut store = loaded(rt, alloc, &drawn(rt, alloc), 0);
+/// What the start and the change are told over a disk whose call of this number fails, and the bytes that a stop behind
+/// them leaves.
+fn two_stopped(rt: &impl Abort, alloc: Global, call: u64, loses: bool) -> (Told, Vec<u8>) {
+    let mut store = loaded(rt, alloc, &drawn(rt, alloc), call);
     let asks = start_and_amend(rt, alloc, store.site().setup());
     let told = submit(rt, alloc, &mut store, asks);
-    assert!(rt; told == Told::Done);
-    let bytes = store.into_devices().disk.image(true);
-    let group: &[u8] =
-        b"\x01\0\0\0\x37\x82\0\0\0\0\0\0\0\0\x03\0\0\0\x01\x9b\x76\xda\xa8\0\0\x03\x02B6\0\0\0\0\0\0\0\0\0\0\x04\0\0\0\x01\x9b\x76\xda\xa8\0\0\x17\x02B6\0\0\0\x03\0\0\0";
-    assert!(rt; bytes == joined(rt, alloc, &[SITE, ORDER, DRAW, group]));
+    (told, store.into_devices().disk.image(loses))
 }
 
 #[test]
 fn a_group_is_one_record(rt: HostRuntime) {
-    expect_one_record(&rt, rt.alloc());
+    let alloc = rt.alloc();
+    let (told, bytes) = two_stopped(&rt, alloc, 0, true);
+    assert!(rt; told == Told::Done);
+    let group: &[u8] =
+        b"\x01\0\0\0\x37\x82\0\0\0\0\0\0\0\0\x03\0\0\0\x01\x9b\x76\xda\xa8\0\0\x03\x02B6\0\0\0\0\0\0\0\0\0\0\x04\0\0\0\x01\x9b\x76\xda\xa8\0\0\x17\x02B6\0\0\0\x03\0\0\0";
+    assert!(rt; bytes == joined(&rt, alloc, &[SITE, ORDER, DRAW, group]));
+}
+
+/// The sync behind its bytes fails, or the write of them: both are told so, and nothing of the group is loaded.
+#[test]
+fn a_group_that_is_not_put_is_told_so_to_each(rt: HostRuntime) {
+    let alloc = rt.alloc();
+    let calls = calls_of_a_load(&rt, alloc, &drawn(&rt, alloc));
+    for call in [1, 2] {
+        for loses in [false, true] {
+            let (told, bytes) = two_stopped(&rt, alloc, calls.saturating_add(call), loses);
+            assert!(rt; told == Told::DiskFault);
+            assert!(rt; entries_in(&rt, alloc, &bytes) == 2);
+        }
+    }
 }
 
 /// What sixteen changes are told over a disk whose call of this number fails, and the bytes that a stop behind them leaves.

@@ -217,3 +217,51 @@ fn expect_stopped(rt: &impl Abort, alloc: Global, journal: &[u8], request: usize
         expect_left(rt, &again, 0, all.answers.as_bytes());
     }
 }
+
+/// An order and a draw of one serial, each asked twice.
+const TWICE_EACH: &[u8] =
+    b"{\"station\":\"P1\",\"number\":1,\"deed\":{\"do\":\"order\",\"batch\":\"B6\",\"gtin\":\"80614141123458\",\"lot\":\"LOT6\",\"expiry\":\"2027-12-31\",\"quantity\":2,\"case\":2,\"pallet\":0}}\n{\"station\":\"P1\",\"number\":1,\"deed\":{\"do\":\"order\",\"batch\":\"B6\",\"gtin\":\"80614141123458\",\"lot\":\"LOT6\",\"expiry\":\"2027-12-31\",\"quantity\":2,\"case\":2,\"pallet\":0}}\n{\"station\":\"P1\",\"number\":2,\"deed\":{\"do\":\"draw\",\"batch\":\"B6\",\"count\":1}}\n{\"station\":\"P1\",\"number\":2,\"deed\":{\"do\":\"draw\",\"batch\":\"B6\",\"count\":1}}\n";
+
+const ORDERED: &str = r#"{"already":0,"new":1,"ok":true}"#;
+
+const FIVE: &str = r#"{"ok":true,"serials":["000005"]}"#;
+
+const SEVEN: &str = r#"{"ok":true,"serials":["000007"]}"#;
+
+/// The disk's calls of these numbers fail, from the first append on: each append and each mend makes four. What isn't
+/// put is forgotten where its bytes can't stand, and else told when it is asked again. In the end there are two entries.
+#[test]
+fn a_run_goes_on_after_each_failing_call(rt: HostRuntime) {
+    let alloc = rt.alloc();
+    let calls = calls_of_a_load(&rt, alloc, &made(&rt, alloc));
+    for (one, other, first, second, third, last) in [
+        (1, 1, DISK_FAULT, ORDERED, FIVE, FIVE),
+        (2, 2, DISK_FAULT, ORDERED, FIVE, FIVE),
+        (3, 3, DISK_FAULT, ORDERED, FIVE, FIVE),
+        (4, 4, DISK_FAULT, ORDERED, FIVE, FIVE),
+        (5, 5, ORDERED, ORDERED, DISK_FAULT, SEVEN),
+        (6, 6, ORDERED, ORDERED, DISK_FAULT, SEVEN),
+        (7, 7, ORDERED, ORDERED, DISK_FAULT, FIVE),
+        (8, 8, ORDERED, ORDERED, DISK_FAULT, FIVE),
+        // the order's gate isn't written, nor is it by the mend at once
+        (3, 4, DISK_FAULT, DISK_FAULT, FIVE, FIVE),
+    ] {
+        let failing = [calls.saturating_add(one), calls.saturating_add(other)];
+        expect_goes_on(&rt, alloc, &failing, &[first, second, third, last]);
+    }
+}
+
+/// Where these calls of the disk fail, each line is told this.
+fn expect_goes_on(rt: &impl Abort, alloc: Global, failing: &[u64], told: &[&str]) {
+    let failing = Failing {
+        disk: failing,
+        ..NOTHING
+    };
+    let mut talk = Talk::new(alloc);
+    for answer in told {
+        talk.tell(rt, alloc, answer);
+    }
+    let left = run_failing(rt, alloc, &made(rt, alloc), TWICE_EACH, &[5, 7], failing);
+    expect_left(rt, &left, 0, talk.answers.as_bytes());
+    expect_found(rt, alloc, &left.disk, 0, BOTH);
+}

@@ -1,6 +1,7 @@
-pub mod Ascii
+mod Ascii
 mod Arrays
 mod Entries
 mod Floats
 mod Json
 pub mod Urns
+mod Stationed

@@ -13,7 +13,7 @@ use Rattle.site_files.specs.Due.{◌>>=◌}
 use Rattle.deed_json.specs.Deeds.{said_of}
 use Rattle.deed_json.specs.declared.deed_fault.DeedFault.{DeedFault}
 use Rattle.deed_json.specs.declared.ask.AskFault.{AskFault}
-use Rattle.deed_json.specs.declared.ask.AskFault.TheVariants.{BadLine, NoStation, BadDeed, Memory}
+use Rattle.deed_json.specs.declared.ask.AskFault.TheVariants.{BadLine, NoStation, BadDeed}
 
 abbrev pub or_bad_line : {A : Type 0} → Option A → Result A AskFault
 or_bad_line None = Err BadLine

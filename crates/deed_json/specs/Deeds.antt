@@ -30,6 +30,10 @@ use Rattle.deed_json.specs.declared.deed_fault.DeedFault.{DeedFault}
 use Rattle.deed_json.specs.declared.deed_fault.DeedFault.TheVariants.{NotObject, NoMember, BadMember, BadCode, BadUrn, TooMany, Memory, BadRow}
 use Rattle.deed_json.specs.declared.deed_word.DeedWord.{DeedWord}
 use Rattle.deed_json.specs.declared.deed_word.DeedWord.TheVariants as word
+use Rattle.deed_json.specs.declared.deed_word.BatchWord.{BatchWord}
+use Rattle.deed_json.specs.declared.deed_word.BatchWord.TheVariants as of_batch
+use Rattle.deed_json.specs.declared.deed_word.UnitWord.{UnitWord}
+use Rattle.deed_json.specs.declared.deed_word.UnitWord.TheVariants as of_unit
 
 -- ---- members
 
@@ -176,64 +180,85 @@ unfoldable pub word_of : Text → Option DeedWord
 word_of text =
     if bytes_eq text (codes "order") then Some word.Order
     else if bytes_eq text (codes "orders") then Some word.Orders
-    else if bytes_eq text (codes "start") then Some word.Start
-    else if bytes_eq text (codes "draw") then Some word.Draw
-    else if bytes_eq text (codes "lend") then Some word.Lend
-    else if bytes_eq text (codes "commission") then Some word.Commission
-    else if bytes_eq text (codes "spoil") then Some word.Spoil
-    else if bytes_eq text (codes "giveback") then Some word.Giveback
-    else if bytes_eq text (codes "sample") then Some word.Sample
-    else if bytes_eq text (codes "reject") then Some word.Reject
-    else if bytes_eq text (codes "reinstate") then Some word.Reinstate
-    else if bytes_eq text (codes "destroy") then Some word.Destroy
-    else if bytes_eq text (codes "decommission") then Some word.Decommission
-    else if bytes_eq text (codes "container") then Some word.Container
-    else if bytes_eq text (codes "pack") then Some word.Pack
-    else if bytes_eq text (codes "unpack") then Some word.Unpack
-    else if bytes_eq text (codes "unpack_all") then Some word.UnpackAll
-    else if bytes_eq text (codes "seal") then Some word.Seal
-    else if bytes_eq text (codes "unseal") then Some word.Unseal
-    else if bytes_eq text (codes "void") then Some word.Void
-    else if bytes_eq text (codes "declare") then Some word.Declare
-    else if bytes_eq text (codes "close") then Some word.Close
-    else if bytes_eq text (codes "amend") then Some word.Amend
+    else if bytes_eq text (codes "start") then Some (word.OfBatch of_batch.Start)
+    else if bytes_eq text (codes "draw") then Some (word.OfBatch of_batch.Draw)
+    else if bytes_eq text (codes "lend") then Some (word.OfBatch of_batch.Lend)
+    else if bytes_eq text (codes "commission") then Some (word.OfBatch of_batch.Commission)
+    else if bytes_eq text (codes "spoil") then Some (word.OfBatch of_batch.Spoil)
+    else if bytes_eq text (codes "giveback") then Some (word.OfBatch of_batch.Giveback)
+    else if bytes_eq text (codes "sample") then Some (word.OfBatch of_batch.Sample)
+    else if bytes_eq text (codes "reject") then Some (word.OfBatch of_batch.Reject)
+    else if bytes_eq text (codes "reinstate") then Some (word.OfBatch of_batch.Reinstate)
+    else if bytes_eq text (codes "destroy") then Some (word.OfBatch of_batch.Destroy)
+    else if bytes_eq text (codes "decommission") then Some (word.OfBatch of_batch.Decommission)
+    else if bytes_eq text (codes "container") then Some (word.OfBatch of_batch.Container)
+    else if bytes_eq text (codes "pack") then Some (word.OfUnit of_unit.Pack)
+    else if bytes_eq text (codes "unpack") then Some (word.OfUnit of_unit.Unpack)
+    else if bytes_eq text (codes "unpack_all") then Some (word.OfUnit of_unit.UnpackAll)
+    else if bytes_eq text (codes "seal") then Some (word.OfUnit of_unit.Seal)
+    else if bytes_eq text (codes "unseal") then Some (word.OfUnit of_unit.Unseal)
+    else if bytes_eq text (codes "void") then Some (word.OfUnit of_unit.Void)
+    else if bytes_eq text (codes "declare") then Some (word.OfBatch of_batch.Declare)
+    else if bytes_eq text (codes "close") then Some (word.OfBatch of_batch.Close)
+    else if bytes_eq text (codes "amend") then Some (word.OfBatch of_batch.Amend)
     else None
 
--- a deed of a batch alone, with a number, serials or items
-abbrev pub of_batch : (Text → Deed) → Data → Result Deed DeedFault
-of_batch make d = do
-  batch ← name_at member.Batch d
-  Ok (make batch)
-
-abbrev pub with_count : (Text → ℕ → Deed) → Data → Result Deed DeedFault
+-- what a deed names beside its batch: nothing, a number, serials or items
+abbrev pub with_count : (ℕ → Deed) → Data → Result Deed DeedFault
 with_count make d = do
-  batch ← name_at member.Batch d
   count ← count_at member.Count d
-  Ok (make batch count)
+  Ok (make count)
 
-abbrev pub with_serials : (Text → List Text → Deed) → Data → Result Deed DeedFault
+abbrev pub with_serials : (List Text → Deed) → Data → Result Deed DeedFault
 with_serials make d = do
-  batch ← name_at member.Batch d
   serials ← serials_at d
-  Ok (make batch serials)
+  Ok (make serials)
 
-abbrev pub with_items : (Text → List Epc → Deed) → Data → Result Deed DeedFault
+abbrev pub with_items : (List Epc → Deed) → Data → Result Deed DeedFault
 with_items make d = do
-  batch ← name_at member.Batch d
   items ← epcs_at member.Items d
-  Ok (make batch items)
+  Ok (make items)
 
--- a deed of a unit alone, or with children
-abbrev pub of_unit : (Text → Deed) → Data → Result Deed DeedFault
-of_unit make d = do
-  unit ← unit_at d
-  Ok (make unit)
+unfoldable pub deed_of_batch : BatchWord → Text → Data → Result Deed DeedFault
+deed_of_batch of_batch.Start batch d = Ok (deed.Start batch)
+deed_of_batch of_batch.Draw batch d = with_count (deed.Draw batch) d
+deed_of_batch of_batch.Lend batch d = with_count (deed.Lend batch) d
+deed_of_batch of_batch.Commission batch d = do
+  scans ← codes_at d
+  Ok (deed.Commission batch scans)
+deed_of_batch of_batch.Spoil batch d = with_serials (deed.Spoil batch) d
+deed_of_batch of_batch.Giveback batch d = with_serials (deed.Giveback batch) d
+deed_of_batch of_batch.Sample batch d = with_items (deed.Sample batch) d
+deed_of_batch of_batch.Reject batch d = with_items (deed.Reject batch) d
+deed_of_batch of_batch.Reinstate batch d = with_items (deed.Reinstate batch) d
+deed_of_batch of_batch.Destroy batch d = with_items (deed.Destroy batch) d
+deed_of_batch of_batch.Decommission batch d = with_items (deed.Decommission batch) d
+deed_of_batch of_batch.Container batch d = do
+  level ← level_at d
+  Ok (deed.Container batch level)
+deed_of_batch of_batch.Declare batch d = do
+  good ← count_at member.Good d
+  spoiled ← count_at member.Spoiled d
+  returned ← count_at member.Returned d
+  Ok (deed.Declare batch good spoiled returned)
+deed_of_batch of_batch.Close batch d = Ok (deed.Close batch)
+deed_of_batch of_batch.Amend batch d = do
+  quantity ← number_at member.Quantity 1 1000000 d
+  Ok (deed.Amend batch quantity)
 
-abbrev pub with_children : (Text → List Epc → Deed) → Data → Result Deed DeedFault
+-- what a deed names beside its unit: nothing or children
+abbrev pub with_children : (List Epc → Deed) → Data → Result Deed DeedFault
 with_children make d = do
-  unit ← unit_at d
   children ← epcs_at member.Children d
-  Ok (make unit children)
+  Ok (make children)
+
+unfoldable pub deed_of_unit : UnitWord → Text → Data → Result Deed DeedFault
+deed_of_unit of_unit.Pack unit d = with_children (deed.Pack unit) d
+deed_of_unit of_unit.Unpack unit d = with_children (deed.Unpack unit) d
+deed_of_unit of_unit.UnpackAll unit d = Ok (deed.UnpackAll unit)
+deed_of_unit of_unit.Seal unit d = Ok (deed.Seal unit)
+deed_of_unit of_unit.Unseal unit d = Ok (deed.Unseal unit)
+deed_of_unit of_unit.Void unit d = Ok (deed.Void unit)
 
 -- the deed of a word, its members in order
 unfoldable pub deed_of_word : DeedWord → Data → Result Deed DeedFault
@@ -243,41 +268,8 @@ deed_of_word word.Order d = do
 deed_of_word word.Orders d = do
   rows ← rows_at d
   Ok (deed.Orders rows)
-deed_of_word word.Start d = of_batch deed.Start d
-deed_of_word word.Draw d = with_count deed.Draw d
-deed_of_word word.Lend d = with_count deed.Lend d
-deed_of_word word.Commission d = do
-  batch ← name_at member.Batch d
-  scans ← codes_at d
-  Ok (deed.Commission batch scans)
-deed_of_word word.Spoil d = with_serials deed.Spoil d
-deed_of_word word.Giveback d = with_serials deed.Giveback d
-deed_of_word word.Sample d = with_items deed.Sample d
-deed_of_word word.Reject d = with_items deed.Reject d
-deed_of_word word.Reinstate d = with_items deed.Reinstate d
-deed_of_word word.Destroy d = with_items deed.Destroy d
-deed_of_word word.Decommission d = with_items deed.Decommission d
-deed_of_word word.Container d = do
-  batch ← name_at member.Batch d
-  level ← level_at d
-  Ok (deed.Container batch level)
-deed_of_word word.Pack d = with_children deed.Pack d
-deed_of_word word.Unpack d = with_children deed.Unpack d
-deed_of_word word.UnpackAll d = of_unit deed.UnpackAll d
-deed_of_word word.Seal d = of_unit deed.Seal d
-deed_of_word word.Unseal d = of_unit deed.Unseal d
-deed_of_word word.Void d = of_unit deed.Void d
-deed_of_word word.Declare d = do
-  batch ← name_at member.Batch d
-  good ← count_at member.Good d
-  spoiled ← count_at member.Spoiled d
-  returned ← count_at member.Returned d
-  Ok (deed.Declare batch good spoiled returned)
-deed_of_word word.Close d = of_batch deed.Close d
-deed_of_word word.Amend d = do
-  batch ← name_at member.Batch d
-  quantity ← number_at member.Quantity 1 1000000 d
-  Ok (deed.Amend batch quantity)
+deed_of_word (word.OfBatch w) d = name_at member.Batch d >>= (λ batch. deed_of_batch w batch d)
+deed_of_word (word.OfUnit w) d = unit_at d >>= (λ unit. deed_of_unit w unit d)
 
 -- the operator, where the deed names one
 abbrev pub operator_in : Option Data → Result (Option Text) DeedFault

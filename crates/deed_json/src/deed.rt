@@ -4,15 +4,16 @@ ghost use Rattle.std.specs.List.{list_all};
 ghost use Rattle.serde_json.specs.View.{view};
 ghost use Rattle.deed_words.specs.Proper.{is_order, IsProperDeed, IsProperSaid};
 ghost use Rattle.site_files.specs.Due.{IsDue, IsExactly};
-ghost use Rattle.deed_json.specs.Deeds.{order_at, rows_at, deed_of_word, said_by_word, said_of};
+ghost use Rattle.deed_json.specs.Deeds.{order_at, rows_at, deed_of_batch, deed_of_unit, deed_of_word, said_by_word, said_of};
 
 use crate::deed_fault::{DeedFault, Member};
-use crate::deed_word::DeedWord;
+use crate::deed_word::{BatchWord, DeedWord, UnitWord};
 use crate::list::{read_codes, read_epcs, read_serials};
 use crate::member::{
     read_date, read_gtin, read_level, read_name, read_number, read_operator, read_text, read_unit,
 };
 use deed_words::{Deed, OrderRow, Rows, Said};
+use gs1_keys::{Sscc, Text20};
 use serde_json::Value;
 use site_files::{FileFault, read_orders};
 use std::alloc::Global;
@@ -49,6 +50,69 @@ fn read_rows(alloc: Global, value: &Value) -> Result<Rows, DeedFault>
     }
 }
 
+/// The deed of a batch: what it names beside that.
+#[tactic(auto, unfolding(crate::specs::Deeds::deed_of_batch))]
+fn read_of_batch(
+    alloc: Global,
+    word: BatchWord,
+    batch: Text20,
+    value: &Value,
+) -> Result<Deed, DeedFault>
+    ensures is { IsDue (λ x. x) DeedFault.Memory result (deed_of_batch word batch (view value.now)) }
+    ensures proper { IfOk result (λ deed. IsProperDeed deed) }
+{
+    match word {
+        BatchWord::Start => Ok(Deed::Start(batch)),
+        BatchWord::Draw => {
+            let count = read_number(value, Member::Count, 0, u32::MAX)?;
+            Ok(Deed::Draw(batch, count))
+        }
+        BatchWord::Lend => {
+            let count = read_number(value, Member::Count, 0, u32::MAX)?;
+            Ok(Deed::Lend(batch, count))
+        }
+        BatchWord::Commission => Ok(Deed::Commission(batch, read_codes(alloc, value)?)),
+        BatchWord::Spoil => Ok(Deed::Spoil(batch, read_serials(alloc, value)?)),
+        BatchWord::Giveback => Ok(Deed::Giveback(batch, read_serials(alloc, value)?)),
+        BatchWord::Sample => Ok(Deed::Sample(batch, read_epcs(alloc, value, Member::Items)?)),
+        BatchWord::Reject => Ok(Deed::Reject(batch, read_epcs(alloc, value, Member::Items)?)),
+        BatchWord::Reinstate => Ok(Deed::Reinstate(batch, read_epcs(alloc, value, Member::Items)?)),
+        BatchWord::Destroy => Ok(Deed::Destroy(batch, read_epcs(alloc, value, Member::Items)?)),
+        BatchWord::Decommission => Ok(Deed::Decommission(
+            batch,
+            read_epcs(alloc, value, Member::Items)?,
+        )),
+        BatchWord::Container => Ok(Deed::Container(batch, read_level(value)?)),
+        BatchWord::Declare => {
+            let good = read_number(value, Member::Good, 0, u32::MAX)?;
+            let spoiled = read_number(value, Member::Spoiled, 0, u32::MAX)?;
+            let returned = read_number(value, Member::Returned, 0, u32::MAX)?;
+            Ok(Deed::Declare(batch, good, spoiled, returned))
+        }
+        BatchWord::Close => Ok(Deed::Close(batch)),
+        BatchWord::Amend => {
+            let quantity = read_number(value, Member::Quantity, 1, 1_000_000)?;
+            Ok(Deed::Amend(batch, quantity))
+        }
+    }
+}
+
+/// The deed of a unit: what it names beside that.
+#[tactic(auto, unfolding(crate::specs::Deeds::deed_of_unit))]
+fn read_of_unit(alloc: Global, word: UnitWord, unit: Sscc, value: &Value) -> Result<Deed, DeedFault>
+    ensures is { IsDue (λ x. x) DeedFault.Memory result (deed_of_unit word unit (view value.now)) }
+    ensures proper { IfOk result (λ deed. IsProperDeed deed) }
+{
+    match word {
+        UnitWord::Pack => Ok(Deed::Pack(unit, read_epcs(alloc, value, Member::Children)?)),
+        UnitWord::Unpack => Ok(Deed::Unpack(unit, read_epcs(alloc, value, Member::Children)?)),
+        UnitWord::UnpackAll => Ok(Deed::UnpackAll(unit)),
+        UnitWord::Seal => Ok(Deed::Seal(unit)),
+        UnitWord::Unseal => Ok(Deed::Unseal(unit)),
+        UnitWord::Void => Ok(Deed::Void(unit)),
+    }
+}
+
 /// The deed of a word.
 #[tactic(auto, unfolding(crate::specs::Deeds::deed_of_word))]
 fn read_word(alloc: Global, word: DeedWord, value: &Value) -> Result<Deed, DeedFault>
@@ -58,77 +122,13 @@ fn read_word(alloc: Global, word: DeedWord, value: &Value) -> Result<Deed, DeedF
     match word {
         DeedWord::Order => Ok(Deed::Order(read_order(value)?)),
         DeedWord::Orders => Ok(Deed::Orders(read_rows(alloc, value)?)),
-        DeedWord::Start => Ok(Deed::Start(read_name(value, Member::Batch)?)),
-        DeedWord::Draw => {
+        DeedWord::OfBatch(word) => {
             let batch = read_name(value, Member::Batch)?;
-            let count = read_number(value, Member::Count, 0, u32::MAX)?;
-            Ok(Deed::Draw(batch, count))
+            read_of_batch(alloc, word, batch, value)
         }
-        DeedWord::Lend => {
-            let batch = read_name(value, Member::Batch)?;
-            let count = read_number(value, Member::Count, 0, u32::MAX)?;
-            Ok(Deed::Lend(batch, count))
-        }
-        DeedWord::Commission => {
-            let batch = read_name(value, Member::Batch)?;
-            Ok(Deed::Commission(batch, read_codes(alloc, value)?))
-        }
-        DeedWord::Spoil => {
-            let batch = read_name(value, Member::Batch)?;
-            Ok(Deed::Spoil(batch, read_serials(alloc, value)?))
-        }
-        DeedWord::Giveback => {
-            let batch = read_name(value, Member::Batch)?;
-            Ok(Deed::Giveback(batch, read_serials(alloc, value)?))
-        }
-        DeedWord::Sample => {
-            let batch = read_name(value, Member::Batch)?;
-            Ok(Deed::Sample(batch, read_epcs(alloc, value, Member::Items)?))
-        }
-        DeedWord::Reject => {
-            let batch = read_name(value, Member::Batch)?;
-            Ok(Deed::Reject(batch, read_epcs(alloc, value, Member::Items)?))
-        }
-        DeedWord::Reinstate => {
-            let batch = read_name(value, Member::Batch)?;
-            Ok(Deed::Reinstate(batch, read_epcs(alloc, value, Member::Items)?))
-        }
-        DeedWord::Destroy => {
-            let batch = read_name(value, Member::Batch)?;
-            Ok(Deed::Destroy(batch, read_epcs(alloc, value, Member::Items)?))
-        }
-        DeedWord::Decommission => {
-            let batch = read_name(value, Member::Batch)?;
-            Ok(Deed::Decommission(batch, read_epcs(alloc, value, Member::Items)?))
-        }
-        DeedWord::Container => {
-            let batch = read_name(value, Member::Batch)?;
-            Ok(Deed::Container(batch, read_level(value)?))
-        }
-        DeedWord::Pack => {
+        DeedWord::OfUnit(word) => {
             let unit = read_unit(value)?;
-            Ok(Deed::Pack(unit, read_epcs(alloc, value, Member::Children)?))
-        }
-        DeedWord::Unpack => {
-            let unit = read_unit(value)?;
-            Ok(Deed::Unpack(unit, read_epcs(alloc, value, Member::Children)?))
-        }
-        DeedWord::UnpackAll => Ok(Deed::UnpackAll(read_unit(value)?)),
-        DeedWord::Seal => Ok(Deed::Seal(read_unit(value)?)),
-        DeedWord::Unseal => Ok(Deed::Unseal(read_unit(value)?)),
-        DeedWord::Void => Ok(Deed::Void(read_unit(value)?)),
-        DeedWord::Declare => {
-            let batch = read_name(value, Member::Batch)?;
-            let good = read_number(value, Member::Good, 0, u32::MAX)?;
-            let spoiled = read_number(value, Member::Spoiled, 0, u32::MAX)?;
-            let returned = read_number(value, Member::Returned, 0, u32::MAX)?;
-            Ok(Deed::Declare(batch, good, spoiled, returned))
-        }
-        DeedWord::Close => Ok(Deed::Close(read_name(value, Member::Batch)?)),
-        DeedWord::Amend => {
-            let batch = read_name(value, Member::Batch)?;
-            let quantity = read_number(value, Member::Quantity, 1, 1_000_000)?;
-            Ok(Deed::Amend(batch, quantity))
+            read_of_unit(alloc, word, unit, value)
         }
     }
 }

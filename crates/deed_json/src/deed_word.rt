@@ -7,6 +7,15 @@ ghost use Rattle.deed_json.specs.Deeds.{word_of};
 pub(crate) enum DeedWord {
     Order,
     Orders,
+    /// To the batch that it names first.
+    OfBatch(BatchWord),
+    /// To the unit that it names first.
+    OfUnit(UnitWord),
+}
+
+/// What a deed does to a batch.
+#[derive(Clone, Copy)]
+pub(crate) enum BatchWord {
     Start,
     Draw,
     Lend,
@@ -19,15 +28,20 @@ pub(crate) enum DeedWord {
     Destroy,
     Decommission,
     Container,
+    Declare,
+    Close,
+    Amend,
+}
+
+/// What a deed does to a unit.
+#[derive(Clone, Copy)]
+pub(crate) enum UnitWord {
     Pack,
     Unpack,
     UnpackAll,
     Seal,
     Unseal,
     Void,
-    Declare,
-    Close,
-    Amend,
 }
 
 impl DeedWord {
@@ -36,31 +50,31 @@ impl DeedWord {
     pub(crate) fn read(text: &str) -> Option<DeedWord>
         ensures { result ≡ word_of text.now }
     {
-        match text {
-            "order" => Some(DeedWord::Order),
-            "orders" => Some(DeedWord::Orders),
-            "start" => Some(DeedWord::Start),
-            "draw" => Some(DeedWord::Draw),
-            "lend" => Some(DeedWord::Lend),
-            "commission" => Some(DeedWord::Commission),
-            "spoil" => Some(DeedWord::Spoil),
-            "giveback" => Some(DeedWord::Giveback),
-            "sample" => Some(DeedWord::Sample),
-            "reject" => Some(DeedWord::Reject),
-            "reinstate" => Some(DeedWord::Reinstate),
-            "destroy" => Some(DeedWord::Destroy),
-            "decommission" => Some(DeedWord::Decommission),
-            "container" => Some(DeedWord::Container),
-            "pack" => Some(DeedWord::Pack),
-            "unpack" => Some(DeedWord::Unpack),
-            "unpack_all" => Some(DeedWord::UnpackAll),
-            "seal" => Some(DeedWord::Seal),
-            "unseal" => Some(DeedWord::Unseal),
-            "void" => Some(DeedWord::Void),
-            "declare" => Some(DeedWord::Declare),
-            "close" => Some(DeedWord::Close),
-            "amend" => Some(DeedWord::Amend),
-            _ => None,
-        }
+        Some(match text {
+            "order" => DeedWord::Order,
+            "orders" => DeedWord::Orders,
+            "start" => DeedWord::OfBatch(BatchWord::Start),
+            "draw" => DeedWord::OfBatch(BatchWord::Draw),
+            "lend" => DeedWord::OfBatch(BatchWord::Lend),
+            "commission" => DeedWord::OfBatch(BatchWord::Commission),
+            "spoil" => DeedWord::OfBatch(BatchWord::Spoil),
+            "giveback" => DeedWord::OfBatch(BatchWord::Giveback),
+            "sample" => DeedWord::OfBatch(BatchWord::Sample),
+            "reject" => DeedWord::OfBatch(BatchWord::Reject),
+            "reinstate" => DeedWord::OfBatch(BatchWord::Reinstate),
+            "destroy" => DeedWord::OfBatch(BatchWord::Destroy),
+            "decommission" => DeedWord::OfBatch(BatchWord::Decommission),
+            "container" => DeedWord::OfBatch(BatchWord::Container),
+            "pack" => DeedWord::OfUnit(UnitWord::Pack),
+            "unpack" => DeedWord::OfUnit(UnitWord::Unpack),
+            "unpack_all" => DeedWord::OfUnit(UnitWord::UnpackAll),
+            "seal" => DeedWord::OfUnit(UnitWord::Seal),
+            "unseal" => DeedWord::OfUnit(UnitWord::Unseal),
+            "void" => DeedWord::OfUnit(UnitWord::Void),
+            "declare" => DeedWord::OfBatch(BatchWord::Declare),
+            "close" => DeedWord::OfBatch(BatchWord::Close),
+            "amend" => DeedWord::OfBatch(BatchWord::Amend),
+            _ => return None,
+        })
     }
 }

@@ -26,17 +26,17 @@ pub(crate) fn ascii_str(characters: &[u8]) -> &str
     }
 }
 
-/// The characters of a text.
+/// A text as JSON. The error is want of memory.
 #[tactic(auto, using(crate::proofs::Ascii::text_is_ascii))]
-pub(crate) fn text_value(alloc: Global, text: &Text20) -> Result<Value, AllocError>
+pub fn text_value(alloc: Global, text: &Text20) -> Result<Value, AllocError>
     ensures { IfOk result (λ v. view v ≡ string text.now) }
 {
     Value::try_from_str(alloc, ascii_str(text.bytes()))
 }
 
-/// The 18 digits of an SSCC.
+/// The 18 digits of an SSCC as JSON. The error is want of memory.
 #[tactic(auto, using(crate::proofs::Ascii::sscc_is_ascii))]
-pub(crate) fn sscc_value(alloc: Global, sscc: &Sscc) -> Result<Value, AllocError>
+pub fn sscc_value(alloc: Global, sscc: &Sscc) -> Result<Value, AllocError>
     ensures { IfOk result (λ v. view v ≡ string sscc.now) }
 {
     Value::try_from_str(alloc, ascii_str(sscc.digits()))

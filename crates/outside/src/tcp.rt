@@ -1,11 +1,13 @@
 //! A TCP stream as a link and a listener as a door, which tell their counts alone; the listener also tells its quota and
-//! its numbers of links.
+//! its numbers of links. A connection sends without delay, and is given up where its peer sends nothing for two minutes
+//! or takes nothing for half a minute.
 ghost use Rattle.std.specs.Prelude.{◌≡◌, ◌+◌, ◌<◌, ◌^◌, None};
 ghost use Rattle.outside.specs.Doors.{with_quota};
 
 use crate::{Door, Failed, Link, Sink, Source};
 use std::io::{Read, Write};
 use std::net::{TcpListener, TcpStream};
+use std::time::Duration;
 
 /// A connection.
 #[derive(Drop)]
@@ -111,6 +113,20 @@ impl TcpDoor {
     }
 }
 
+/// How many seconds a peer may send nothing while its next bytes are waited for.
+const READ_SECONDS: u64 = 120;
+
+/// How many seconds a peer may take nothing of an answer.
+const WRITE_SECONDS: u64 = 30;
+
+// Lets each answer go at once, and gives up a peer that sends nothing or takes nothing. Where the system refuses one of
+// these, the connection is served without it.
+fn make_prompt(stream: &TcpStream) {
+    let _ = stream.set_nodelay(true);
+    let _ = stream.set_read_timeout(Some(Duration::from_secs(READ_SECONDS)));
+    let _ = stream.set_write_timeout(Some(Duration::from_secs(WRITE_SECONDS)));
+}
+
 impl Door for TcpDoor {
     type Link = TcpLink;
 
@@ -123,6 +139,7 @@ impl Door for TcpDoor {
         self.quota -= 1;
         match self.accept() {
             Ok(stream) => {
+                make_prompt(&stream);
                 self.given += 1;
                 Ok(Some(TcpLink::new(stream)))
             }

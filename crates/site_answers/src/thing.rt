@@ -10,9 +10,8 @@ ghost use Rattle.site_answers.specs.Things.{item_answer, item_data, unit_answer,
 use crate::fault_name::FaultName;
 use crate::response::Response;
 use crate::told::json_response;
-use crate::values::{
-    line_value, parent_value, text_value, word_of_level, word_of_mark, word_of_state,
-};
+use crate::values::{line_value, parent_value, word_of_level, word_of_mark, word_of_state};
+use deed_json::text_value;
 use gs1_keys::{Gtin, Memory, Sscc, Text20};
 use serde_json::{Value, json};
 use site_core::{ItemView, Site, UnitView};

@@ -1,14 +1,13 @@
-//! Texts and keys of an item and a unit as JSON values.
-ghost use Rattle.std.specs.Prelude.{◌≡◌, IfOk, IsAscii};
-ghost use Rattle.serde_json.specs.Data.{string};
+//! What an item and a unit tell as JSON values.
+ghost use Rattle.std.specs.Prelude.{◌≡◌, IfOk};
 ghost use Rattle.serde_json.specs.View.{view};
 ghost use Rattle.site_answers.specs.Things.{or_null, state_word, mark_word, level_word};
 
+use deed_json::{sscc_value, text_value};
 use deed_words::{Level, Mark, State};
 use gs1_keys::{Sscc, Text20};
 use serde_json::Value;
 use std::alloc::{AllocError, Global};
-use std::str;
 
 /// The word of a state.
 #[tactic(auto, unfolding(crate::specs::Things::state_word))]
@@ -48,34 +47,6 @@ pub(crate) fn word_of_level(level: Level) -> &'static str
         Level::Case => "case",
         Level::Pallet => "pallet",
     }
-}
-
-/// ASCII characters as a text.
-#[tactic(auto, using(deed_json::proofs::Ascii::ascii_is_utf8))]
-fn ascii_str(characters: &[u8]) -> &str
-    requires { IsAscii characters.now }
-    ensures { result.now ≡ characters.now }
-{
-    match str::from_utf8(characters) {
-        Ok(text) => text,
-        Err(_) => unreachable!(),
-    }
-}
-
-/// The characters of a text.
-#[tactic(auto, using(deed_json::proofs::Ascii::text_is_ascii))]
-pub(crate) fn text_value(alloc: Global, text: &Text20) -> Result<Value, AllocError>
-    ensures { IfOk result (λ v. view v ≡ string text.now) }
-{
-    Value::try_from_str(alloc, ascii_str(text.bytes()))
-}
-
-/// The 18 digits of an SSCC.
-#[tactic(auto, using(deed_json::proofs::Ascii::sscc_is_ascii))]
-fn sscc_value(alloc: Global, sscc: &Sscc) -> Result<Value, AllocError>
-    ensures { IfOk result (λ v. view v ≡ string sscc.now) }
-{
-    Value::try_from_str(alloc, ascii_str(sscc.digits()))
 }
 
 /// The name of a line, or null.

@@ -20,7 +20,7 @@ use Rattle.site_store.specs.declared.store.Devices.{Devices}
 use Rattle.site_store.specs.Readings.{Reading, ReadsAs, Nothing, Bad, Kept}
 use Rattle.site_store.specs.States.{settled}
 use Rattle.site_console.specs.declared.ending.Ending.{Ending}
-use Rattle.site_console.specs.declared.ending.Ending.TheVariants.{Done, BadWords, Unreadable, JournalThere, NoJournal, JournalBad, ReadFault, WriteFault, DiskFault, UnknownBatch, NoMemory, TooLong}
+use Rattle.site_console.specs.declared.ending.Ending.TheVariants.{Done, BadWords, Unreadable, JournalThere, NoJournal, JournalBad, ReadFault, WriteFault, DiskFault, UnknownBatch, NoMemory, DoorFault, TooLong}
 use Rattle.site_console.specs.declared.fault.Fault.{Fault}
 use Rattle.site_console.specs.declared.fault.Fault.TheVariants.{Read, Write, Memory, InputTooLong}
 use Rattle.site_console.specs.Endings.{status_of, ending_of, is_read_ending, is_write_ending, is_disk_ending}
@@ -92,6 +92,7 @@ module _ {D C W : Type 0} (g : disk.Ghosts D) (k : clock.Ghosts C) (w : words.Gh
   not_loaded old new a b c d ReadFault sound loadable s = absurd s.refuses
   not_loaded old new a b c d WriteFault sound loadable s = absurd s.refuses
   not_loaded old new a b c d UnknownBatch sound loadable s = absurd s.refuses
+  not_loaded old new a b c d DoorFault sound loadable s = absurd s.refuses
   not_loaded old new a b c d TooLong sound loadable s = absurd s.refuses
 
   ran_result : (old new : Devices D C W) (a b c d : Stream) (ending : Ending) (s : RanFrom g k w old new a b c d ending) (result : Result (Unit {0}) Fault) → s.result ≡ result → ¬ (Rose a.faults b.faults) → ¬ (Rose c.faults d.faults) → IsSomeAnd a.bytes (λ all. length all < input_limit)
@@ -138,6 +139,7 @@ module _ {D C W : Type 0} (g : disk.Ghosts D) (k : clock.Ghosts C) (w : words.Gh
   made site old new c d (JournalBad place) put is cause write sound writes none = absurd is
   made site old new c d ReadFault put is cause write sound writes none = absurd is
   made site old new c d UnknownBatch put is cause write sound writes none = absurd is
+  made site old new c d DoorFault put is cause write sound writes none = absurd is
   made site old new c d TooLong put is cause write sound writes none = absurd is
 
   unread_done : (a b : Stream) (ending : Ending) → (ending ≡ ReadFault) ⊎ (ending ≡ NoMemory) → HasCauseIf (is_read_ending ending) a.faults b.faults → ¬ (Rose a.faults b.faults) → IsDone (status_of ending)

@@ -1,5 +1,5 @@
 -- Endings, and their causes.
-use Rattle.std.proofs.Common.{◌≡◌, ◌⊎◌, ℕ, false, List, [], Option, Result, Ok, Err, inl, inr, refl, arith}
+use Rattle.std.proofs.Common.{◌≡◌, ◌⊎◌, ℕ, Bool, true, false, List, [], Option, Result, Ok, Err, inl, inr, refl, arith}
 use Rattle.outside.specs.Causes.{HasCauseIf}
 use Rattle.outside.specs.Disks.{Tells as OfContent}
 use Rattle.outside.specs.declared.disk.Disk as disk
@@ -10,7 +10,7 @@ use Rattle.site_store.specs.declared.load.StoreFault.TheVariants as store
 use Rattle.site_store.specs.Loads.{is_disk}
 use Rattle.site_store.specs.Readings.{ReadsAs, Nothing, Bad}
 use Rattle.site_console.specs.declared.ending.Ending.{Ending}
-use Rattle.site_console.specs.declared.ending.Ending.TheVariants.{Done, BadWords, Unreadable, JournalThere, NoJournal, JournalBad, ReadFault, WriteFault, DiskFault, UnknownBatch, NoMemory, TooLong}
+use Rattle.site_console.specs.declared.ending.Ending.TheVariants.{Done, BadWords, Unreadable, JournalThere, NoJournal, JournalBad, ReadFault, WriteFault, DiskFault, UnknownBatch, NoMemory, DoorFault, TooLong}
 use Rattle.site_console.specs.declared.fault.Fault.{Fault}
 use Rattle.site_console.specs.declared.fault.Fault.TheVariants.{Read, Write, Memory, InputTooLong}
 use Rattle.site_console.specs.declared.site_file.SiteFault.{SiteFault}
@@ -103,6 +103,7 @@ ready_ends g site old new ReadFault put is made = absurd is
 ready_ends g site old new DiskFault put is made = absurd is
 ready_ends g site old new UnknownBatch put is made = absurd is
 ready_ends g site old new NoMemory put is made = absurd is
+ready_ends g site old new DoorFault put is made = absurd is
 ready_ends g site old new TooLong put is made = absurd is
 
 pub ready_disk : (ending : Ending) (put : List ℕ) (before now : ℕ) → IsReadyPut ending put → now ≡ before → HasCauseIf (is_disk_ending ending) before now
@@ -117,6 +118,7 @@ ready_disk ReadFault put before now is same = absurd is
 ready_disk DiskFault put before now is same = absurd is
 ready_disk UnknownBatch put before now is same = absurd is
 ready_disk NoMemory put before now is same = absurd is
+ready_disk DoorFault put before now is same = absurd is
 ready_disk TooLong put before now is same = absurd is
 
 -- what isn't a fault of the source, where the journal was made or not
@@ -132,6 +134,7 @@ makes_no_read g site old new (Unreadable kind) put is = refl
 makes_no_read g site old new NoJournal put is = refl
 makes_no_read g site old new (JournalBad place) put is = refl
 makes_no_read g site old new ReadFault put is = absurd is
+makes_no_read g site old new DoorFault put is = refl
 makes_no_read g site old new TooLong put is = refl
 
 -- ---- of a site file that gives no setup
@@ -145,3 +148,33 @@ pub file_write : (fault : SiteFault) (n : ℕ) → HasCauseIf (is_write_ending (
 file_write (site.Unreadable kind) n = same_count n
 file_write site.Source n = same_count n
 file_write site.Memory n = same_count n
+
+-- ---- of refused words, and of doors
+
+-- the endings that no command with a journal has here
+abbrev pub is_apart : Ending → Bool
+is_apart BadWords = true
+is_apart DoorFault = true
+is_apart ending = false
+
+pub run_apart : (result : Result (Unit {0}) Fault) → is_apart (ending_of result) ≡ true → ⊥
+run_apart (Ok done) e = cc
+run_apart (Err Read) e = cc
+run_apart (Err Write) e = cc
+run_apart (Err Memory) e = cc
+run_apart (Err InputTooLong) e = cc
+
+pub load_apart : (content : Option (List ℕ)) (ending : Ending) → is_apart ending ≡ true → Refuses content ending → ⊥
+load_apart content NoJournal e refuses = cc
+load_apart content (JournalBad place) e refuses = cc
+load_apart content DiskFault e refuses = cc
+load_apart content NoMemory e refuses = cc
+load_apart content ending e refuses = refuses
+
+pub make_apart : {D : Type 0} (g : disk.Ghosts D) (site : Setup) (old new : D) (ending : Ending) (put : List ℕ) → is_apart ending ≡ true → MakeEnds g site old new ending put → ⊥
+make_apart g site old new Done put e made = cc
+make_apart g site old new WriteFault put e made = cc
+make_apart g site old new JournalThere put e made = cc
+make_apart g site old new DiskFault put e made = cc
+make_apart g site old new NoMemory put e made = cc
+make_apart g site old new ending put e made = made

@@ -6,13 +6,12 @@ mod Going
 mod Causing
 mod Standing
 mod Served
-mod Stationed
 mod Printed
 mod Promised
 mod Answered
 mod Kept
 mod Loaded
-mod Ends
+pub mod Ends
 mod Made
 mod Filed
 mod Statuses

@@ -9,7 +9,7 @@ use Rattle.command_words.specs.declared.command.Command.{Command}
 use Rattle.command_words.specs.declared.command.Command.TheVariants.{Init, Run, Report, Export, Check, Log, Simulate, Serve}
 use Rattle.site_store.specs.declared.store.Devices.{Devices}
 use Rattle.site_console.specs.declared.ending.Ending.{Ending}
-use Rattle.site_console.specs.declared.ending.Ending.TheVariants.{Done, BadWords, Unreadable, JournalThere, NoJournal, JournalBad, ReadFault, WriteFault, DiskFault, UnknownBatch, NoMemory, TooLong}
+use Rattle.site_console.specs.declared.ending.Ending.TheVariants.{Done, BadWords, Unreadable, JournalThere, NoJournal, JournalBad, ReadFault, WriteFault, DiskFault, UnknownBatch, NoMemory, DoorFault, TooLong}
 use Rattle.site_console.specs.declared.look.Look.{Look}
 use Rattle.site_console.specs.declared.look.Look.TheVariants as look
 use Rattle.site_console.specs.Endings.{status_of, is_write_ending}
@@ -31,6 +31,7 @@ told_done (Some text) WriteFault put before now told write sound = absurd (sound
 told_done (Some text) DiskFault put before now told write sound = absurd told
 told_done (Some text) UnknownBatch put before now told write sound = absurd told
 told_done (Some text) NoMemory put before now told write sound = inr (inr refl)
+told_done (Some text) DoorFault put before now told write sound = absurd told
 told_done (Some text) TooLong put before now told write sound = absurd told
 told_done None Done put before now told write sound = absurd told
 told_done None BadWords put before now told write sound = absurd told
@@ -43,6 +44,7 @@ told_done None WriteFault put before now told write sound = absurd told
 told_done None DiskFault put before now told write sound = absurd told
 told_done None UnknownBatch put before now told write sound = inl refl
 told_done None NoMemory put before now told write sound = absurd told
+told_done None DoorFault put before now told write sound = absurd told
 told_done None TooLong put before now told write sound = absurd told
 
 module _ {D C W : Type 0} (g : disk.Ghosts D) (k : clock.Ghosts C) (w : words.Ghosts W) (one : OneReading) where
@@ -62,7 +64,7 @@ module _ {D C W : Type 0} (g : disk.Ghosts D) (k : clock.Ghosts C) (w : words.Gh
   obeyed_look (Some Init) old new s s' i i' c mid d ending n asked is obeys later sound loadable = absurd cc
   obeyed_look (Some Run) old new s s' i i' c mid d ending n asked is obeys later sound loadable = absurd cc
   obeyed_look (Some (Simulate seed count)) old new s s' i i' c mid d ending n asked is obeys later sound loadable = absurd cc
-  obeyed_look (Some (Serve port workers connections)) old new s s' i i' c mid d ending n asked is obeys later sound loadable = absurd cc
+  obeyed_look (Some (Serve words)) old new s s' i i' c mid d ending n asked is obeys later sound loadable = absurd cc
   obeyed_look (Some (Report batch)) old new s s' i i' c mid d ending n asked is (inl wants) later sound loadable = inr (inr (is ∙ ap status_of wants.0))
   obeyed_look (Some (Report batch)) old new s s' i i' c mid d ending n asked is (inr session) later sound loadable = look_done (look.Report batch) old new i c mid d ending n is session.2 later sound.disk sound.sink loadable
   obeyed_look (Some (Export batch from count)) old new s s' i i' c mid d ending n asked is (inl wants) later sound loadable = inr (inr (is ∙ ap status_of wants.0))

@@ -6,6 +6,7 @@ use Rattle.deed_words.specs.History.{IsLawful, world_of}
 use Rattle.deed_words.specs.Numbers.{Means, Kept}
 use Rattle.deed_words.specs.Proper.{IsProperEntry}
 use Rattle.deed_words.specs.Replies.{reply_to}
+use Rattle.deed_words.specs.declared.deed.Deed.{Deed}
 use Rattle.deed_words.specs.declared.entry.Ask.{Ask}
 use Rattle.deed_words.specs.declared.entry.Entry.{Entry}
 use Rattle.deed_words.specs.declared.entry.FaultKind.TheVariants as kind
@@ -19,7 +20,10 @@ use Rattle.site_store.specs.One.{Answers, Steps}
 use Rattle.site_store.specs.States.{State, all_of}
 use Rattle.site_console.specs.Answers.{IsPrintableOutcome}
 use Rattle.site_console.specs.Turns.{TurnsTo}
-use Rattle.site_console.proofs.Stationed.{KeepsProper, kept_fits}
+
+-- what a number of a station has kept names stations of the setup alone
+abbrev pub NamesStations : Type 0
+NamesStations = (site : Setup) (history : List Entry) (station number : ℕ) (deed : Deed) (reply : Reply) → IsLawful site history → All IsProperEntry history → Means site history station number deed (Kept reply) → NamesStationsOf site reply
 
 -- each entry of a lawful history is kept with the reply that it got
 abbrev pub KeepsReplies : Type 0
@@ -30,19 +34,19 @@ unmended : (reply : Reply) (worker : ℕ) (notes : List Noted) → ((Replied rep
 unmended reply worker notes (inl failed) = let e = failed.0 in cc
 unmended reply worker notes (inr wants) = let e = wants.0 in cc
 
-module _ (keeps : KeepsProper) (replies : KeepsReplies) where
+module _ (names : NamesStations) (replies : KeepsReplies) where
   -- a reply that was kept, now or before
   answered_fits : (site : Setup) (end : ℕ) (g : List Entry) (worker : ℕ) (ask : Ask) (taken : Taken) (reply : Reply) (new : State) (more : List Noted) → IsLawful site new.history → All IsProperEntry new.history
       → Answers site end g worker ask taken (Replied reply) new more → NamesStationsOf site reply
   answered_fits site end g worker ask taken reply new more lawful proper (inl found) =
       let h : new.history ≡ g = ap (λ (s : State). s.history) found.1.state in
-      kept_fits keeps site g ask.station ask.number ask.deed reply (subst (λ (l : List Entry). IsLawful site l) h lawful) (subst (λ (l : List Entry). All IsProperEntry l) h proper) found.0.means
+      names site g ask.station ask.number ask.deed reply (subst (λ (l : List Entry). IsLawful site l) h lawful) (subst (λ (l : List Entry). All IsProperEntry l) h proper) found.0.means
   answered_fits site end g worker ask taken reply new more lawful proper (inr acts) =
       let h : new.history ≡ g ++ acts.entry ∷ [] = ap (λ (s : State). s.history) acts.state in
       let e = acts.entry in
       let is_lawful = subst (λ (l : List Entry). IsLawful site l) h lawful in
       subst (NamesStationsOf site) (sym acts.reply_is)
-      (kept_fits keeps site (g ++ e ∷ []) e.station e.number e.deed (reply_to site (world_of site g) e) is_lawful (subst (λ (l : List Entry). All IsProperEntry l) h proper) (replies site g [] e is_lawful))
+      (names site (g ++ e ∷ []) e.station e.number e.deed (reply_to site (world_of site g) e) is_lawful (subst (λ (l : List Entry). All IsProperEntry l) h proper) (replies site g [] e is_lawful))
 
   steps_fit : (site : Setup) (end : ℕ) (old : State) (worker : ℕ) (ask : Ask) (taken : Taken) (outcome : Outcome) (new : State) (notes : List Noted) → IsLawful site new.history → All IsProperEntry new.history
       → Steps site end old worker ask taken outcome new notes → IsPrintableOutcome site outcome

@@ -1,5 +1,5 @@
 -- The statuses of the program.
-use Rattle.std.proofs.Common.{◌≡◌, ◌⊎◌, ℕ, true, List, Option, None, Some, Result, Ok, Err, inl, inr, refl, sym, subst, ◌∙◌, ap}
+use Rattle.std.proofs.Common.{◌≡◌, ◌⊎◌, ℕ, true, false, List, Option, None, Some, inl, inr, refl, sym, subst, ◌∙◌, ap}
 use Rattle.outside.specs.declared.disk.Disk as disk
 use Rattle.outside.specs.declared.devices.Words as words
 use Rattle.outside.specs.declared.clock.Clock as clock
@@ -7,36 +7,37 @@ use Rattle.site_store.specs.declared.store.Devices.{Devices}
 use Rattle.command_words.specs.declared.command.Command.{Command}
 use Rattle.command_words.specs.declared.command.Command.TheVariants.{Init, Run, Report, Export, Check, Log, Simulate, Serve}
 use Rattle.site_console.specs.declared.ending.Ending.{Ending}
-use Rattle.site_console.specs.declared.ending.Ending.TheVariants.{Done, BadWords, Unreadable, JournalThere, NoJournal, JournalBad, ReadFault, WriteFault, DiskFault, UnknownBatch, NoMemory, TooLong}
-use Rattle.site_console.specs.declared.fault.Fault.{Fault}
-use Rattle.site_console.specs.declared.fault.Fault.TheVariants.{Read, Write, Memory, InputTooLong}
+use Rattle.site_console.specs.declared.ending.Ending.TheVariants.{Done, BadWords, Unreadable, JournalThere, NoJournal, JournalBad, ReadFault, WriteFault, DiskFault, UnknownBatch, NoMemory, DoorFault, TooLong}
 use Rattle.site_console.specs.Commands.{is_refused}
-use Rattle.site_console.specs.Endings.{status_of, ending_of}
+use Rattle.site_console.specs.Endings.{status_of}
 use Rattle.site_console.specs.Files.{IsWhole}
-use Rattle.site_console.specs.Inits.{InitSession, Unread, Faulty, Opens}
-use Rattle.site_console.specs.Sessions.{RunSession, NotLoaded, RanFrom}
+use Rattle.site_console.specs.Inits.{Unread, Faulty, Opens}
+use Rattle.site_console.specs.Sessions.{NotLoaded, RanFrom}
 use Rattle.site_console.specs.Told.{Stream}
 use Rattle.site_console.specs.Top.{IsStatus, Obeys, Session}
 use Rattle.site_console.specs.declared.look.Look.TheVariants as look
-use Rattle.site_console.proofs.Looking.{look_bad}
-use Rattle.site_console.proofs.SimEnded.{sim_bad}
+use Rattle.site_console.proofs.Ends.{is_apart, run_apart, load_apart, make_apart}
+use Rattle.site_console.proofs.Looking.{look_apart}
+use Rattle.site_console.proofs.SimEnded.{sim_apart}
 
-one : (ending : Ending) → IsStatus (status_of ending)
-one Done = inl refl
-one BadWords = inr (inl refl)
-one (Unreadable kind) = inr (inr (inl refl))
-one JournalThere = inr (inr (inr (inl refl)))
-one NoJournal = inr (inr (inr (inr (inl refl))))
-one (JournalBad place) = inr (inr (inr (inr (inr (inl refl)))))
-one ReadFault = inr (inr (inr (inr (inr (inr (inl refl))))))
-one WriteFault = inr (inr (inr (inr (inr (inr (inr (inl refl)))))))
-one DiskFault = inr (inr (inr (inr (inr (inr (inr (inr (inl refl))))))))
-one UnknownBatch = inr (inr (inr (inr (inr (inr (inr (inr (inr (inl refl)))))))))
-one NoMemory = inr (inr (inr (inr (inr (inr (inr (inr (inr (inr (inl refl))))))))))
-one TooLong = inr (inr (inr (inr (inr (inr (inr (inr (inr (inr (inr refl))))))))))
+-- 12 is that of doors, which no command here has
+one : (ending : Ending) → (ending ≡ DoorFault → ⊥) → IsStatus (status_of ending)
+one Done other = inl refl
+one BadWords other = inr (inl refl)
+one (Unreadable kind) other = inr (inr (inl refl))
+one JournalThere other = inr (inr (inr (inl refl)))
+one NoJournal other = inr (inr (inr (inr (inl refl))))
+one (JournalBad place) other = inr (inr (inr (inr (inr (inl refl)))))
+one ReadFault other = inr (inr (inr (inr (inr (inr (inl refl))))))
+one WriteFault other = inr (inr (inr (inr (inr (inr (inr (inl refl)))))))
+one DiskFault other = inr (inr (inr (inr (inr (inr (inr (inr (inl refl))))))))
+one UnknownBatch other = inr (inr (inr (inr (inr (inr (inr (inr (inr (inl refl)))))))))
+one NoMemory other = inr (inr (inr (inr (inr (inr (inr (inr (inr (inr (inl refl))))))))))
+one DoorFault other = absurd (other refl)
+one TooLong other = inr (inr (inr (inr (inr (inr (inr (inr (inr (inr (inr refl))))))))))
 
-pub is_status : (ending : Ending) (n : ℕ) → n ≡ status_of ending → IsStatus n
-is_status ending n e = subst IsStatus (sym e) (one ending)
+pub is_status : (ending : Ending) (n : ℕ) → (ending ≡ DoorFault → ⊥) → n ≡ status_of ending → IsStatus n
+is_status ending n other e = subst IsStatus (sym e) (one ending other)
 
 -- 2 is that of bad words alone
 two : (ending : Ending) → status_of ending ≡ 2 → ending ≡ BadWords
@@ -51,51 +52,38 @@ two WriteFault e = absurd cc
 two DiskFault e = absurd cc
 two UnknownBatch e = absurd cc
 two NoMemory e = absurd cc
+two DoorFault e = absurd cc
 two TooLong e = absurd cc
 
-run_ends : (result : Result (Unit {0}) Fault) → ending_of result ≡ BadWords → ⊥
-run_ends (Ok done) e = cc
-run_ends (Err Read) e = cc
-run_ends (Err Write) e = cc
-run_ends (Err Memory) e = cc
-run_ends (Err InputTooLong) e = cc
-
 module _ {D C W : Type 0} (g : disk.Ghosts D) (k : clock.Ghosts C) (w : words.Ghosts W) where
-  not_run : (old new : Devices D C W) (a b c d : Stream) → NotLoaded g old new a b c d BadWords ⊎ RanFrom g k w old new a b c d BadWords → ⊥
-  not_run old new a b c d (inl loads) = loads.refuses
-  not_run old new a b c d (inr ran) = run_ends ran.result (sym ran.ending_is)
+  not_run : (old new : Devices D C W) (a b c d : Stream) (ending : Ending) → is_apart ending ≡ true → NotLoaded g old new a b c d ending ⊎ RanFrom g k w old new a b c d ending → ⊥
+  not_run old new a b c d ending e (inl s) = load_apart (g.content old.disk) ending e s.refuses
+  not_run old new a b c d ending e (inr s) = run_apart s.result (ap is_apart (sym s.ending_is) ∙ e)
 
-  unread : (old new : Devices D C W) (c d : Stream) → (BadWords ≡ ReadFault) ⊎ (BadWords ≡ NoMemory) → ⊥
-  unread old new c d (inl e) = cc
-  unread old new c d (inr e) = cc
+  unread : (ending : Ending) → is_apart ending ≡ true → (ending ≡ ReadFault) ⊎ (ending ≡ NoMemory) → ⊥
+  unread ending e (inl is) = let no_read : false ≡ true = sym (ap is_apart is) ∙ e in cc
+  unread ending e (inr is) = let no_read : false ≡ true = sym (ap is_apart is) ∙ e in cc
 
-  not_init : (old new : Devices D C W) (left : Option (List ℕ)) (bytes : List ℕ) (c d : Stream) → Unread old new c d BadWords ⊎ (IsWhole left bytes × (Faulty bytes old new c d BadWords ⊎ Opens g bytes old new c d BadWords)) → ⊥
-  not_init old new left bytes c d (inl is) = unread old new c d is.why
-  not_init old new left bytes c d (inr (whole, inl faulty)) = let e = faulty.ending_is in cc
-  not_init old new left bytes c d (inr (whole, inr opens)) = opens.makes.ends
-
-  run_bad : (old new : Devices D C W) (a b c d : Stream) (ending : Ending) → ending ≡ BadWords → RunSession g k w old new a b c d ending → ⊥
-  run_bad old new a b c d ending e s = not_run old new a b c d (subst (λ (x : Ending). NotLoaded g old new a b c d x ⊎ RanFrom g k w old new a b c d x) e s.comes)
-
-  init_bad : (old new : Devices D C W) (a b c d : Stream) (ending : Ending) → ending ≡ BadWords → InitSession g old new a b c d ending → ⊥
-  init_bad old new a b c d ending e s =
-      not_init old new b.bytes s.bytes c d (subst (λ (x : Ending). Unread old new c d x ⊎ (IsWhole b.bytes s.bytes × (Faulty s.bytes old new c d x ⊎ Opens g s.bytes old new c d x))) e s.comes)
+  not_init : (old new : Devices D C W) (left : Option (List ℕ)) (bytes : List ℕ) (c d : Stream) (ending : Ending) → is_apart ending ≡ true → Unread old new c d ending ⊎ (IsWhole left bytes × (Faulty bytes old new c d ending ⊎ Opens g bytes old new c d ending)) → ⊥
+  not_init old new left bytes c d ending e (inl s) = unread ending e s.why
+  not_init old new left bytes c d ending e (inr (whole, inl s)) = let no_file : false ≡ true = sym (ap is_apart s.ending_is) ∙ e in cc
+  not_init old new left bytes c d ending e (inr (whole, inr s)) = make_apart g s.site old.disk new.disk ending s.makes.put e s.makes.ends
 
   -- the words of no other session are refused
-  session_refused : (command : Option Command) (old new : Devices D C W) (s s' i i' o o' : Stream) (ending : Ending) → Session g k w command old new s s' i i' o o' ending → ending ≡ BadWords → is_refused command ≡ true
+  session_refused : (command : Option Command) (old new : Devices D C W) (s s' i i' o o' : Stream) (ending : Ending) → Session g k w command old new s s' i i' o o' ending → is_apart ending ≡ true → is_refused command ≡ true
   session_refused None old new s s' i i' o o' ending session e = refl
-  session_refused (Some Init) old new s s' i i' o o' ending session e = absurd (init_bad old new s s' o o' ending e session.1)
-  session_refused (Some Run) old new s s' i i' o o' ending session e = absurd (run_bad old new i i' o o' ending e session.1)
-  session_refused (Some (Report batch)) old new s s' i i' o o' ending session e = absurd (look_bad g (look.Report batch) old new i o o' ending e session.2)
-  session_refused (Some (Export batch from count)) old new s s' i i' o o' ending session e = absurd (look_bad g (look.Export batch from count) old new i o o' ending e session.2)
-  session_refused (Some Check) old new s s' i i' o o' ending session e = absurd (look_bad g look.Check old new i o o' ending e session.2)
-  session_refused (Some (Log from count)) old new s s' i i' o o' ending session e = absurd (look_bad g (look.Log from count) old new i o o' ending e session.2)
-  session_refused (Some (Simulate seed count)) old new s s' i i' o o' ending session e = absurd (sim_bad g seed count old new o o' ending e session.2)
-  session_refused (Some (Serve port workers connections)) old new s s' i i' o o' ending session e = refl
+  session_refused (Some Init) old new s s' i i' o o' ending session e = absurd (not_init old new s'.bytes session.1.bytes o o' ending e session.1.comes)
+  session_refused (Some Run) old new s s' i i' o o' ending session e = absurd (not_run old new i i' o o' ending e session.1.comes)
+  session_refused (Some (Report batch)) old new s s' i i' o o' ending session e = absurd (look_apart g (look.Report batch) old new i o o' ending e session.2)
+  session_refused (Some (Export batch from count)) old new s s' i i' o o' ending session e = absurd (look_apart g (look.Export batch from count) old new i o o' ending e session.2)
+  session_refused (Some Check) old new s s' i i' o o' ending session e = absurd (look_apart g look.Check old new i o o' ending e session.2)
+  session_refused (Some (Log from count)) old new s s' i i' o o' ending session e = absurd (look_apart g (look.Log from count) old new i o o' ending e session.2)
+  session_refused (Some (Simulate seed count)) old new s s' i i' o o' ending session e = absurd (sim_apart g seed count old new o o' ending e session.2)
+  session_refused (Some (Serve words)) old new s s' i i' o o' ending session e = refl
 
   pub bad_words : (command : Option Command) (old new : Devices D C W) (s s' i i' o o' : Stream) (ending : Ending) (n : ℕ) → n ≡ status_of ending → Obeys g k w command old new s s' i i' o o' ending → n ≡ 2 → is_refused command ≡ true
   bad_words command old new s s' i i' o o' ending n is (inl wants) e = absurd (let eleven = sym (ap status_of wants.0) ∙ sym is ∙ e in cc)
-  bad_words command old new s s' i i' o o' ending n is (inr session) e = session_refused command old new s s' i i' o o' ending session (two ending (sym is ∙ e))
+  bad_words command old new s s' i i' o o' ending n is (inr session) e = session_refused command old new s s' i i' o o' ending session (ap is_apart (two ending (sym is ∙ e)))
 
   -- where words are refused, the session is none
   session_ends : (command : Option Command) (old new : Devices D C W) (s s' i i' o o' : Stream) (ending : Ending) → Session g k w command old new s s' i i' o o' ending → is_refused command ≡ true → ending ≡ BadWords
@@ -107,8 +95,14 @@ module _ {D C W : Type 0} (g : disk.Ghosts D) (k : clock.Ghosts C) (w : words.Gh
   session_ends (Some Check) old new s s' i i' o o' ending session e = absurd cc
   session_ends (Some (Log from count)) old new s s' i i' o o' ending session e = absurd cc
   session_ends (Some (Simulate seed count)) old new s s' i i' o o' ending session e = absurd cc
-  session_ends (Some (Serve port workers connections)) old new s s' i i' o o' ending session e = session.0
+  session_ends (Some (Serve words)) old new s s' i i' o o' ending session e = session.0
 
   pub refused_ends : (command : Option Command) (old new : Devices D C W) (s s' i i' o o' : Stream) (ending : Ending) (n : ℕ) → n ≡ status_of ending → Obeys g k w command old new s s' i i' o o' ending → is_refused command ≡ true → (n ≡ 2) ⊎ (n ≡ 11)
   refused_ends command old new s s' i i' o o' ending n is (inl wants) e = inr (is ∙ ap status_of wants.0)
   refused_ends command old new s s' i i' o o' ending n is (inr session) e = inl (is ∙ ap status_of (session_ends command old new s s' i i' o o' ending session e))
+
+  -- no session here ends by a door
+  pub no_door : (command : Option Command) (old new : Devices D C W) (s s' i i' o o' : Stream) (ending : Ending) → Obeys g k w command old new s s' i i' o o' ending → ending ≡ DoorFault → ⊥
+  no_door command old new s s' i i' o o' ending (inl wants) e = let both : NoMemory ≡ DoorFault = sym wants.0 ∙ e in cc
+  no_door command old new s s' i i' o o' ending (inr session) e =
+      let both : BadWords ≡ DoorFault = sym (session_ends command old new s s' i i' o o' ending session (session_refused command old new s s' i i' o o' ending session (ap is_apart e))) ∙ e in cc

@@ -9,7 +9,7 @@ use Rattle.site_console.specs.Newline.{newline}
 use Rattle.site_console.specs.declared.fault.Fault.{Fault}
 use Rattle.site_console.specs.declared.fault.Fault.TheVariants as run
 use Rattle.site_console.specs.declared.ending.Ending.{Ending}
-use Rattle.site_console.specs.declared.ending.Ending.TheVariants.{Done, BadWords, Unreadable, JournalThere, NoJournal, JournalBad, ReadFault, WriteFault, DiskFault, UnknownBatch, NoMemory, TooLong}
+use Rattle.site_console.specs.declared.ending.Ending.TheVariants.{Done, BadWords, Unreadable, JournalThere, NoJournal, JournalBad, ReadFault, WriteFault, DiskFault, UnknownBatch, NoMemory, DoorFault, TooLong}
 
 abbrev pub status_of : Ending → ℕ
 status_of Done = 0
@@ -23,6 +23,7 @@ status_of WriteFault = 8
 status_of DiskFault = 9
 status_of UnknownBatch = 10
 status_of NoMemory = 11
+status_of DoorFault = 12
 status_of TooLong = 13
 
 -- what is printed of a fault
@@ -38,6 +39,7 @@ fault_line ReadFault = codes "input fault" ++ newline ∷ []
 fault_line DiskFault = codes "disk fault" ++ newline ∷ []
 fault_line UnknownBatch = codes "unknown batch" ++ newline ∷ []
 fault_line NoMemory = codes "want of memory" ++ newline ∷ []
+fault_line DoorFault = codes "door fault" ++ newline ∷ []
 fault_line TooLong = codes "input too long" ++ newline ∷ []
 
 -- the front of a line was put, and all of it where the sink didn't fail

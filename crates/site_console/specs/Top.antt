@@ -58,7 +58,7 @@ Session g k w (Some (Log from count)) old new site_old site_new input_old input_
     (site_new ≡ site_old) × (input_new ≡ input_old) × LookSession g (look.Log from count) old new input_old out_old out_new ending
 Session g k w (Some (Simulate seed count)) old new site_old site_new input_old input_new out_old out_new ending =
     (site_new ≡ site_old) × (input_new ≡ input_old) × SimSession g seed count old new out_old out_new ending
-Session g k w (Some (Serve port workers connections)) old new site_old site_new input_old input_new out_old out_new ending =
+Session g k w (Some (Serve words)) old new site_old site_new input_old input_new out_old out_new ending =
     Idles old new site_old site_new input_old input_new out_old out_new ending BadWords
 
 -- the command's session; or memory was wanting for its words, and nothing was done

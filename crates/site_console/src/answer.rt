@@ -13,8 +13,8 @@ ghost use Rattle.site_console.specs.Turns.{TurnsTo};
 
 use crate::lines::Line;
 use crate::request::turn;
-use deed_json::{AskFault, Unkept, read_ask, reply_text, unkept_text};
-use deed_words::{Ask, Setup, numbers_mean_one_thing, worlds_are_proper};
+use deed_json::{AskFault, Unkept, read_ask, replies_name_stations, reply_text, unkept_text};
+use deed_words::{Ask, Setup, numbers_mean_one_thing};
 use gs1_keys::Memory;
 use outside::{Clock, Disk, Words};
 use site_store::{Outcome, Store};
@@ -74,7 +74,7 @@ fn answer_ask<D: Disk, C: Clock, W: Words>(store: &mut Store<D, C, W>, ask: Ask)
     ensures opened { (store.new.opening ≡ store.old.opening) × (store.new.opened ≡ store.old.opened) }
     ensures stands { Stands D.Disk C.Clock W.Words store.new }
 {
-    worlds_are_proper();
+    replies_name_stations();
     numbers_mean_one_thing();
     let outcome = turn(store, ask);
     store.site().tell_kept();

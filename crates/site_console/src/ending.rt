@@ -30,6 +30,8 @@ pub enum Ending {
     UnknownBatch,
     /// Memory was wanting.
     NoMemory,
+    /// A call of a door failed.
+    DoorFault,
     /// As many bytes were taken as a run may take.
     TooLong,
 }
@@ -50,6 +52,7 @@ pub fn status_of(ending: Ending) -> u8
         Ending::DiskFault => 9,
         Ending::UnknownBatch => 10,
         Ending::NoMemory => 11,
+        Ending::DoorFault => 12,
         Ending::TooLong => 13,
     }
 }
@@ -68,7 +71,7 @@ pub(crate) fn ending_of(run: Result<(), Fault>) -> Ending
 }
 
 /// How a command ends whose journal couldn't be made or loaded.
-pub(crate) fn ending_of_store(fault: StoreFault) -> Ending
+pub fn ending_of_store(fault: StoreFault) -> Ending
     ensures { result ≡ ending_of_store fault }
 {
     match fault {

@@ -37,6 +37,7 @@ fn tell<O: Sink>(out: &mut O, ending: Ending)
         Ending::DiskFault => tell_line(out, b"disk fault\n"),
         Ending::UnknownBatch => tell_line(out, b"unknown batch\n"),
         Ending::NoMemory => tell_line(out, b"want of memory\n"),
+        Ending::DoorFault => tell_line(out, b"door fault\n"),
         Ending::TooLong => tell_line(out, b"input too long\n"),
     }
 }

@@ -27,7 +27,7 @@ mod words;
 mod words_of_logs;
 
 pub use answer::{Answer, answer_line, print};
-pub use ending::{Ending, status_of};
+pub use ending::{Ending, ending_of_store, status_of};
 pub use fault::Fault;
 pub use fault_line::end_with;
 pub use laws::logs_name_rules_as_replies_do;

@@ -29,8 +29,8 @@ pub fn site_top<S: Source, I: Source, O: Sink, D: Disk, C: Clock, W: Words>(
 ) -> (u8, Devices<D, C, W>)
     ensures statuses { IsStatus result.0 }
 
-    // The words are refused exactly where they are those of no command, or of `serve`, which the program doesn't
-    // have yet; or memory is wanting. Then no device was called, but for the fault's line.
+    // The words are refused exactly where they are those of no command, or of `serve`, which several workers
+    // do; or memory is wanting. Then no device was called, but for the fault's line.
     ensures bad_words { result.0 ≡ 2 → is_refused (command_of (map string_bytes args.now)) ≡ true }
     ensures refused { is_refused (command_of (map string_bytes args.now)) ≡ true
         → ((result.0 ≡ 2) ⊎ (result.0 ≡ 11)) × (site.new ≡ site.old) × (input.new ≡ input.old) × (result.1 ≡ devices) }
@@ -80,7 +80,7 @@ fn obey<S: Source, I: Source, O: Sink, D: Disk, C: Clock, W: Words>(
     }
 }
 
-/// Carries out a command; one that the program doesn't have yet is refused as other words are.
+/// Carries out a command; `serve`, which several workers do, is refused as other words are.
 fn carry_out<S: Source, I: Source, O: Sink, D: Disk, C: Clock, W: Words>(
     alloc: Global,
     command: Command,
@@ -106,6 +106,6 @@ fn carry_out<S: Source, I: Source, O: Sink, D: Disk, C: Clock, W: Words>(
         Command::Check => look_store(alloc, Look::Check, out, devices),
         Command::Log { from, count } => look_store(alloc, Look::Log(from, count), out, devices),
         Command::Simulate { seed, count } => simulate_store(alloc, seed, count, out, devices),
-        Command::Serve { .. } => (Ending::BadWords, devices),
+        Command::Serve(_) => (Ending::BadWords, devices),
     }
 }

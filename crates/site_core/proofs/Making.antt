@@ -1,6 +1,6 @@
 -- What is kept of the move of a deed, by the stores.
-use Rattle.std.proofs.Common.{◌≡◌, ◌<◌, ◌+◌, ℕ, zero, suc, Bool, true, false, cond, eqb, not, nat_lt, List, [], ◌∷◌, map, length, get_or, All, Option, None, Some, refl, sym, ap, ◌∙◌, arith}
-use Rattle.std.specs.Prelude.{option_map, if◌then◌else◌, take, take_while, Result, Ok, Err, IfOk}
+use Rattle.std.proofs.Common.{◌≡◌, ◌<◌, ◌+◌, ℕ, zero, suc, Bool, true, false, true≢false, cond, eqb, not, nat_lt, List, [], ◌∷◌, map, length, get_or, All, Option, None, Some, refl, sym, ap, ◌∙◌, arith}
+use Rattle.std.specs.Prelude.{option_map, if◌then◌else◌, take, take_while, Result, Ok, Err, IfOk, IfSome}
 use Rattle.std.specs.List.{slice_get, position, position_or_len, prefix_len, AllByRecursion as Every}
 use Rattle.std.proofs.lemmas.List.Recursion.{is_position_or_len}
 use Rattle.epc_urn.specs.declared.epc.Epc.{Epc}
@@ -12,6 +12,7 @@ use Rattle.deed_words.specs.Replies.{answer_to, reply_to, replied}
 use Rattle.deed_words.specs.Rules.{broken}
 use Rattle.deed_words.specs.World.{World, batch_of}
 use Rattle.deed_words.specs.declared.deed.Deed.{Deed}
+use Rattle.deed_words.specs.declared.deed.Deed.TheVariants.{Order, Orders}
 use Rattle.deed_words.specs.declared.entry.Entry.{Entry}
 use Rattle.deed_words.specs.declared.reply.Answer.{Answer}
 use Rattle.deed_words.specs.declared.reply.Reply.TheVariants.{Accepted, Refused}
@@ -22,8 +23,12 @@ use Rattle.deed_words.proofs.Sameness.{same-true}
 use Rattle.pack_tree.specs.declared.link.Pair.{Pair as Link}
 use Rattle.pack_tree.specs.Packing.{HasRoom, IsThereIn}
 use Rattle.pack_tree.specs.Pairs as tree
+use Rattle.pack_tree.specs.Units.{is_coded}
 use Rattle.batch_book.specs.Batches.{is_called}
 use Rattle.batch_book.specs.Content.{Content, world_in}
+use Rattle.site_rules.specs.Asked.{IsSubject}
+use Rattle.site_rules.specs.Suits.{is_about_batch}
+use Rattle.site_rules.specs.declared.subject.Subject.{Subject}
 use Rattle.site_stores.proofs.Finding.{no_batch, the_batch, within}
 use Rattle.site_core.specs.Seen.{rule_told}
 use Rattle.site_core.proofs.Logs.{rule_is}
@@ -76,6 +81,25 @@ there_at (x ∷ xs) (suc at) l = there_at xs at (omega (arith, l))
 -- the place of the batch that a deed with an event changes
 abbrev pub batch_at : Content → Deed → Option ℕ
 batch_at c deed = if has_event deed then position (is_called (batch_named (world_in c) deed)) c.batches else None
+
+event_batch : (deed : Deed) → has_event deed ≡ true → is_about_batch deed ≡ true
+unfolding has_event is_about_batch
+event_batch (Order row) e = absurd (true≢false (sym e))
+event_batch (Orders rows) e = absurd (true≢false (sym e))
+event_batch deed e = refl
+
+-- it was found with what the deed is about
+pub batch_found : (c : Content) (deed : Deed) (subject : Subject) → IsSubject c deed subject → (if has_event deed then subject.batch else None) ≡ batch_at c deed
+batch_found c deed subject is =
+    (elim (has_event deed) as (λ (b : Bool). has_event deed ≡ b → (if b then subject.batch else None) ≡ (if b then position (is_called (batch_named (world_in c) deed)) c.batches else None)) [
+      | true ↦ λ h. is.batch_is (event_batch deed h)
+      | false ↦ λ h. refl
+    ]) refl
+
+-- a unit that was found is there
+pub unit_there : (c : Content) (sscc : Text) (place : Option ℕ) → place ≡ position (is_coded sscc) c.units → IfSome place (λ unit. unit < length c.units)
+unit_there c sscc None e = tt
+unit_there c sscc (Some unit) e = within (is_coded sscc) c.units unit (sym e)
 
 no_event : (site : Setup) (w : World) (place : ℕ) (entry : Entry) → has_event entry.deed ≡ false → map kept_of (moved_by site w place entry None) ≡ []
 unfolding moved_by

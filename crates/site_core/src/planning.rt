@@ -8,6 +8,7 @@ ghost use Rattle.deed_words.specs.Proper.{IsProperAsk, IsProperDeed, IsProperEnt
 ghost use Rattle.deed_words.specs.Rules.{broken};
 ghost use Rattle.batch_book.specs.Content.{world_in};
 ghost use Rattle.serial_pool.specs.declared.drawn.DrawnSerial.{DrawnSerial};
+ghost use Rattle.site_rules.specs.Asked.{IsSubject};
 ghost use Rattle.request_memo.specs.Memos.{told_by};
 ghost use Rattle.site_deeds.specs.DrawEnds.{is_words_fault};
 ghost use Rattle.site_deeds.specs.Decisions.{serials_drawn, Decides, IsDecided};
@@ -34,6 +35,7 @@ use outside::Words;
 use request_memo::Memo;
 use serial_pool::DrawPlan;
 use site_deeds::{Decided, KnownFault, PlanFault, decide, decide_known};
+use site_rules::Subject;
 use std::alloc::Global;
 
 impl Site {
@@ -72,7 +74,7 @@ impl Site {
         let Ok(drawn) = drawn_serials(self.alloc, &decided.draw) else {
             return Err(PlanFault::Memory);
         };
-        let Ok(moved) = self.kept_move(&ask.deed, &decided.reply) else {
+        let Ok(moved) = self.kept_move(&ask.deed, &decided.subject, &decided.reply) else {
             return Err(PlanFault::Memory);
         };
         let Ok(()) = self.ready(ask.station, &moved) else {
@@ -108,7 +110,7 @@ impl Site {
             Err(KnownFault::NotDrawn) => return Err(Unlawful::BadDrawn),
             Err(KnownFault::Memory) => return Err(Unlawful::Memory),
         };
-        let Ok(moved) = self.kept_move(&entry.deed, &decided.reply) else {
+        let Ok(moved) = self.kept_move(&entry.deed, &decided.subject, &decided.reply) else {
             return Err(Unlawful::Memory);
         };
         let Ok(()) = self.ready(entry.station, &moved) else {
@@ -175,12 +177,19 @@ impl Site {
         fault_of(&self.setup, &self.memo, stamp_of_last(&self.kept), entry)
     }
 
-    /// What is kept of the move of the next entry, if it has one: of an entry with this deed that gets this reply.
+    /// What is kept of the move of the next entry, if it has one: of an entry with this deed that gets this reply. What the
+    /// deed is about was found when it was decided.
     ///
     /// # Errors
     ///
     /// `Memory` where no memory was found, or there are 2^32 - 1 entries.
-    fn kept_move(&self, deed: &Deed, reply: &Reply) -> Result<Option<Moved>, Memory>
+    fn kept_move(
+        &self,
+        deed: &Deed,
+        subject: &Subject,
+        reply: &Reply,
+    ) -> Result<Option<Moved>, Memory>
+        requires subject { IsSubject self.now.content deed.now subject.now }
         ensures few { IfOk result (λ moved. length self.now.history + 1 < 2 ^ 32) }
         ensures moved { IfOk result (λ moved. (entry : TheEntry) → entry.deed ≡ deed.now → reply.now ≡ reply_to self.now.setup (world_of self.now.setup self.now.history) entry
             → map kept_of (moved_by self.now.setup (world_of self.now.setup self.now.history) (length self.now.history) entry (broken self.now.setup (world_of self.now.setup self.now.history) entry.station entry.deed)) ≡ listed moved) }
@@ -189,7 +198,7 @@ impl Site {
         if place >= MOST_ENTRIES {
             return Err(Memory);
         }
-        kept_move(self.alloc, &self.stores, place as u32, deed, reply)
+        kept_move(self.alloc, &self.stores, place as u32, deed, subject, reply)
     }
 
     /// Makes room for one more entry of the station, with its move, if it has one.

@@ -21,9 +21,10 @@ use Rattle.deed_words.specs.declared.rule.Rule.{Rule}
 use Rattle.deed_words.specs.declared.world.Row.{Row}
 use Rattle.deed_words.proofs.Items.{map-map}
 use Rattle.batch_book.specs.Content.{Content, world_in}
-use Rattle.site_rules.specs.Asked.{IsFound}
+use Rattle.site_rules.specs.Asked.{IsFound, IsSubject}
 use Rattle.site_rules.specs.Suits.{is_draw}
 use Rattle.site_rules.specs.declared.found.Found.{Found}
+use Rattle.site_rules.specs.declared.subject.Subject.{Subject}
 use Rattle.site_stores.specs.declared.change.Change.{Change}
 use Rattle.site_stores.specs.declared.change.Change.TheVariants.{Nothing}
 use Rattle.site_stores.specs.Changes.{applied, MayApply, MayChange, room_for}
@@ -104,14 +105,15 @@ module _ (site : Setup) (c : Content) (station : ℕ) (deed : Deed) where
   same_rule : (drawn : List Text) (entry : Entry) (rule : Option Rule) → IsOf station deed drawn entry → broken site (world_in c) station deed ≡ rule → broken site (world_in c) entry.station entry.deed ≡ rule
   same_rule drawn entry rule of e = ap₂ (broken site (world_in c)) of.station_is of.deed_is ∙ e
 
-  pub refused_decided : (decided : Decided) (rule : Rule) → IsWhole c → broken site (world_in c) station deed ≡ Some rule → decided.reply ≡ Refused rule → decided.change ≡ Nothing → decided.draw ≡ None → IsDecided site c station deed [] decided
+  pub refused_decided : (decided : Decided) (rule : Rule) → IsWhole c → broken site (world_in c) station deed ≡ Some rule → IsSubject c deed decided.subject → decided.reply ≡ Refused rule → decided.change ≡ Nothing → decided.draw ≡ None → IsDecided site c station deed [] decided
   unfolding reply_to replied after unless_broken MayChange
-  refused_decided decided rule whole e reply change draw =
+  refused_decided decided rule whole e about reply change draw =
       let w = world_in c in
       record {
         told = ap serials_drawn draw;
         may_draw = subst (λ (r : Option Rule). MayDraw site w r deed []) (sym e) (refused_may_draw site w rule deed);
         reply_is = λ entry of. reply ∙ sym (ap (replied site w entry) (same_rule [] entry (Some rule) of e));
+        subject_is = about;
         may = subst (MayApply c) (sym change) (record { whole = whole; may = tt });
         effect = λ entry of. ap (λ (ch : Change). world_in (applied c ch)) change ∙ sym (ap (unless_broken site w entry) (same_rule [] entry (Some rule) of e));
         draw_is = ap (λ (ch : Change). drawn_in (world_in (applied c ch))) change ∙ sym (append-nil (drawn_in w)) ∙ sym (ap (λ (p : Option PlanView). drawn_in w ++ drawn_by_plan p) draw);
@@ -125,9 +127,9 @@ module _ (site : Setup) (c : Content) (station : ℕ) (deed : Deed) where
   told_so decided drawn taken d draws =
       subst (λ (ss : List Text). IsDecided site c station deed ss decided × Draws site (world_in c) (broken site (world_in c) station deed) deed taken ss) (sym d.told) (d, draws)
 
-  pub refused_decides : (decided : Decided) (rule : Rule) → IsWhole c → broken site (world_in c) station deed ≡ Some rule → decided.reply ≡ Refused rule → decided.change ≡ Nothing → decided.draw ≡ None → Decides site c station deed [] (Ok decided)
-  refused_decides decided rule whole e reply change draw =
-      told_so decided [] [] (refused_decided decided rule whole e reply change draw) (subst (λ (r : Option Rule). Draws site (world_in c) r deed [] []) (sym e) (refused_draws site (world_in c) rule deed))
+  pub refused_decides : (decided : Decided) (rule : Rule) → IsWhole c → broken site (world_in c) station deed ≡ Some rule → IsSubject c deed decided.subject → decided.reply ≡ Refused rule → decided.change ≡ Nothing → decided.draw ≡ None → Decides site c station deed [] (Ok decided)
+  refused_decides decided rule whole e about reply change draw =
+      told_so decided [] [] (refused_decided decided rule whole e about reply change draw) (subst (λ (r : Option Rule). Draws site (world_in c) r deed [] []) (sym e) (refused_draws site (world_in c) rule deed))
 
 -- ---- a deed that breaks none
 
@@ -144,11 +146,11 @@ pub room_left : (held : Held) (done : Done) (decided : Decided) (answer : Answer
 room_left held done decided answer w same d = subst (λ (ch : Change). IsWithin (room_for ch) held.room) (sym same) d.room
 
 module _ (site : Setup) (held : Held) (station : ℕ) (deed : Deed) where
-  done_by : (decided : Decided) (done : Done) (drawn : List Text) → broken site (world_in held.content) station deed ≡ None → DoesDeed site held station deed drawn done → decided.reply ≡ Accepted done.answer → decided.change ≡ done.change
+  done_by : (decided : Decided) (done : Done) (drawn : List Text) → broken site (world_in held.content) station deed ≡ None → IsSubject held.content deed decided.subject → DoesDeed site held station deed drawn done → decided.reply ≡ Accepted done.answer → decided.change ≡ done.change
       → serials_drawn decided.draw ≡ drawn → MayDraw site (world_in held.content) None deed drawn → drawn_in (effect site (world_in held.content) station deed drawn) ≡ drawn_in (world_in held.content) ++ drawn_by_plan decided.draw → MayCommit (drawn_in (world_in held.content)) decided.draw
       → IfSome decided.draw (λ plan. 0 < length plan.serials) → IsDecided site held.content station deed drawn decided
   unfolding reply_to replied after unless_broken
-  done_by decided done drawn e does reply change told may_draw grows new some =
+  done_by decided done drawn e about does reply change told may_draw grows new some =
       let c = held.content in
       let w = world_in c in
       let made : world_in (applied c decided.change) ≡ effect site w station deed drawn = ap (λ (ch : Change). world_in (applied c ch)) change ∙ does.effect_is in
@@ -159,6 +161,7 @@ module _ (site : Setup) (held : Held) (station : ℕ) (deed : Deed) where
         told = told;
         may_draw = subst (λ (r : Option Rule). MayDraw site w r deed drawn) (sym e) may_draw;
         reply_is = λ entry of. reply ∙ ap Accepted (does.answer_is ∙ answers entry of) ∙ sym (ap (replied site w entry) (same_rule site c station deed drawn entry None of e));
+        subject_is = about;
         may = subst (MayApply c) (sym change) does.may;
         effect = λ entry of. made ∙ effects entry of ∙ sym (ap (unless_broken site w entry) (same_rule site c station deed drawn entry None of e));
         draw_is = ap drawn_in made ∙ grows;
@@ -166,11 +169,11 @@ module _ (site : Setup) (held : Held) (station : ℕ) (deed : Deed) where
         some = some;
       }
 
-  pub done_decided : (decided : Decided) (done : Done) → is_draw deed ≡ false → broken site (world_in held.content) station deed ≡ None → DoesDeed site held station deed [] done → decided.reply ≡ Accepted done.answer → decided.change ≡ done.change → decided.draw ≡ None
+  pub done_decided : (decided : Decided) (done : Done) → is_draw deed ≡ false → broken site (world_in held.content) station deed ≡ None → IsSubject held.content deed decided.subject → DoesDeed site held station deed [] done → decided.reply ≡ Accepted done.answer → decided.change ≡ done.change → decided.draw ≡ None
       → IsDecided site held.content station deed [] decided
-  done_decided decided done other e does reply change draw =
+  done_decided decided done other e about does reply change draw =
       let w = world_in held.content in
-      done_by decided done [] e does reply change (ap serials_drawn draw) (none_may_draw site w deed other)
+      done_by decided done [] e about does reply change (ap serials_drawn draw) (none_may_draw site w deed other)
       (keeps_drawn site w station deed [] other ∙ sym (append-nil (drawn_in w)) ∙ sym (ap (λ (p : Option PlanView). drawn_in w ++ drawn_by_plan p) draw)) (subst (MayCommit (drawn_in w)) (sym draw) tt) (none_has decided.draw draw)
 
 -- the same with the words that were taken: none
@@ -180,13 +183,13 @@ other_decides site c station deed decided other e d = told_so site c station dee
 -- ---- a draw that breaks none
 
 module _ (site : Setup) (held : Held) (station : ℕ) (name : Text) (count : ℕ) where
-  pub draw_decided : (decided : Decided) (done : Done) (plan : PlanView) → broken site (world_in held.content) station (Draw name count) ≡ None → DoesDeed site held station (Draw name count) plan.serials done → decided.reply ≡ Accepted done.answer → decided.change ≡ done.change → decided.draw ≡ Some plan
+  pub draw_decided : (decided : Decided) (done : Done) (plan : PlanView) → broken site (world_in held.content) station (Draw name count) ≡ None → IsSubject held.content (Draw name count) decided.subject → DoesDeed site held station (Draw name count) plan.serials done → decided.reply ≡ Accepted done.answer → decided.change ≡ done.change → decided.draw ≡ Some plan
       → AreNewFor site (world_in held.content) (gtin_of (world_in held.content) name) count plan.serials → plan.gtin ≡ gtin_of (world_in held.content) name → IsPlanFor (drawn_in (world_in held.content)) plan
       → IsDecided site held.content station (Draw name count) plan.serials decided
   unfolding MayDraw effect with_drawn
-  draw_decided decided done plan e does reply change draw new gtin fits =
+  draw_decided decided done plan e about does reply change draw new gtin fits =
       let w = world_in held.content in
-      done_by site held station (Draw name count) decided done plan.serials e does reply change (ap serials_drawn draw) new
+      done_by site held station (Draw name count) decided done plan.serials e about does reply change (ap serials_drawn draw) new
       (sym (drawn_more w.rows (gtin_of w name) name plan.serials) ∙ ap (λ (g : Text). drawn_in w ++ drawn_for g plan.serials) (sym gtin) ∙ sym (ap (λ (p : Option PlanView). drawn_in w ++ drawn_by_plan p) draw))
       (subst (MayCommit (drawn_in w)) (sym draw) fits)
       (subst (λ (o : Option PlanView). IfSome o (λ p. 0 < length p.serials)) (sym draw) (subst (λ (n : ℕ). 0 < n) (sym new.counted) (asked_some site w station name count e)))
@@ -258,9 +261,9 @@ some_drawn b drawn h e none = true≢false (sym (h.1 none) ∙ e)
 
 -- ---- what was judged
 
-pub breaks : (site : Setup) (c : Content) (station : ℕ) (deed : Deed) (judged : Judged) (rule : Rule) → IsJudged site c station deed judged → judged ≡ Breaks rule → broken site (world_in c) station deed ≡ Some rule
+pub breaks : (site : Setup) (c : Content) (station : ℕ) (deed : Deed) (judged : Judged) (rule : Rule) (subject : Subject) → IsJudged site c station deed judged → judged ≡ Breaks rule subject → (broken site (world_in c) station deed ≡ Some rule) × IsSubject c deed subject
 unfolding IsJudged
-breaks site c station deed judged rule j is = subst (IsJudged site c station deed) is j
+breaks site c station deed judged rule subject j is = subst (IsJudged site c station deed) is j
 
 pub allows : (site : Setup) (c : Content) (station : ℕ) (deed : Deed) (judged : Judged) (found : Found) → IsJudged site c station deed judged → judged ≡ Allowed found → (broken site (world_in c) station deed ≡ None) × IsFound c deed found
 unfolding IsJudged

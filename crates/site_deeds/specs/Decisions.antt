@@ -9,6 +9,7 @@ use Rattle.deed_words.specs.Rules.{broken}
 use Rattle.deed_words.specs.Replies.{after, reply_to}
 use Rattle.deed_words.specs.History.{MayDraw}
 use Rattle.batch_book.specs.Content.{Content, world_in}
+use Rattle.site_rules.specs.Asked.{IsSubject}
 use Rattle.site_stores.specs.Changes.{applied, MayApply}
 use Rattle.site_deeds.specs.declared.decided.Decided.{Decided}
 use Rattle.site_deeds.specs.declared.fault.PlanFault.{PlanFault}
@@ -26,11 +27,12 @@ abbrev pub serials_drawn : Option PlanView → List Text
 serials_drawn None = []
 serials_drawn (Some plan) = plan.serials
 
--- the reply, the change and the draw are those of every such entry; a draw has a serial
+-- the reply, the change and the draw are those of every such entry, and the subject is the deed's; a draw has a serial
 pub record IsDecided (site : Setup) (c : Content) (station : ℕ) (deed : Deed) (drawn : List Text) (decided : Decided) : Type 0 where
   pub told : serials_drawn decided.draw ≡ drawn
   pub may_draw : MayDraw site (world_in c) (broken site (world_in c) station deed) deed drawn
   pub reply_is : (entry : Entry) → IsOf station deed drawn entry → decided.reply ≡ reply_to site (world_in c) entry
+  pub subject_is : IsSubject c deed decided.subject
   pub may : MayApply c decided.change
   pub effect : (entry : Entry) → IsOf station deed drawn entry → world_in (applied c decided.change) ≡ after site (world_in c) entry
   pub draw_is : drawn_in (world_in (applied c decided.change)) ≡ drawn_in (world_in c) ++ drawn_by_plan decided.draw

@@ -34,33 +34,48 @@ use deed_words::{BatchId, Deed, Reply, Rule, Setup, StationId};
 use gs1_keys::{Memory, Serials, Text20};
 use outside::Words;
 use serial_pool::{DrawPlan, Pool};
-use site_rules::Found;
+use site_rules::{Found, Subject};
 use site_stores::{Change, Stores};
 use std::alloc::Global;
 
 /// A deed that breaks the rule: it changes nothing.
-fn refused(rule: Rule) -> Decided
+fn refused(rule: Rule, subject: Subject) -> Decided
     ensures reply { result.reply ≡ Refused rule }
+    ensures subject { result.subject ≡ subject }
     ensures change { result.change ≡ Nothing }
     ensures draw { result.draw ≡ None }
 {
     Decided {
         reply: Reply::Refused(rule),
+        subject,
         change: Change::Nothing,
         draw: None,
     }
 }
 
 /// A deed that is done.
-fn accepted(done: Done, draw: Option<DrawPlan>) -> Decided
+fn accepted(done: Done, subject: Subject, draw: Option<DrawPlan>) -> Decided
     ensures reply { result.reply ≡ Accepted done.answer }
+    ensures subject { result.subject ≡ subject }
     ensures change { result.change ≡ done.change }
     ensures draw { result.draw ≡ draw }
 {
     Decided {
         reply: Reply::Accepted(done.answer),
+        subject,
         change: done.change,
         draw,
+    }
+}
+
+/// What the deed is about, of what was found of its names.
+fn subject_in(found: &Found) -> Subject
+    ensures unit { result.unit ≡ found.now.unit }
+    ensures batch { result.batch ≡ found.now.batch }
+{
+    Subject {
+        unit: found.unit,
+        batch: found.batch,
     }
 }
 
@@ -85,7 +100,7 @@ fn decide_other(
     ensures room { IfOk result (λ decided. IsWithin (room_for decided.change) stores.new.room) }
 {
     let done = do_deed(alloc, setup, stores, station, deed, found)?;
-    Ok(accepted(done, None))
+    Ok(accepted(done, subject_in(found), None))
 }
 
 /// What comes of a draw that breaks no rule, with this plan. The place of its batch is known.
@@ -111,7 +126,11 @@ fn decide_planned(
     ensures room { IfOk result (λ decided. IsWithin (room_for decided.change) stores.new.room) }
 {
     let done = draw(stores, name, batch, plan.serials())?;
-    Ok(accepted(done, Some(plan)))
+    let subject = Subject {
+        unit: None,
+        batch: Some(batch),
+    };
+    Ok(accepted(done, subject, Some(plan)))
 }
 
 /// What comes of a draw that breaks no rule. The place of its batch is known.
@@ -182,7 +201,7 @@ pub fn decide<W: Words>(
     stores.tell_whole();
     let found = match judge(alloc, setup, stores, pool, station, deed) {
         Ok(Judged::Allowed(found)) => found,
-        Ok(Judged::Breaks(rule)) => return Ok(refused(rule)),
+        Ok(Judged::Breaks(rule, subject)) => return Ok(refused(rule, subject)),
         Err(_) => return Err(PlanFault::Memory),
     };
     if let Deed::Draw(name, count) = deed {
@@ -261,11 +280,11 @@ pub fn decide_known(
     stores.tell_whole();
     let found = match judge(alloc, setup, stores, pool, station, deed) {
         Ok(Judged::Allowed(found)) => found,
-        Ok(Judged::Breaks(rule)) => {
+        Ok(Judged::Breaks(rule, subject)) => {
             if !drawn.is_empty() {
                 return Err(KnownFault::NotDrawn);
             }
-            return Ok(refused(rule));
+            return Ok(refused(rule, subject));
         }
         Err(_) => return Err(KnownFault::Memory),
     };

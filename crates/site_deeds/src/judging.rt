@@ -15,8 +15,8 @@ use std::alloc::Global;
 /// Whether a deed may be done.
 #[derive(Drop)]
 pub(crate) enum Judged {
-    /// It breaks this rule.
-    Breaks(Rule),
+    /// It breaks this rule, and this is what it is about.
+    Breaks(Rule, Subject),
     /// It breaks none, and this was found of its names.
     Allowed(Found),
 }
@@ -51,7 +51,7 @@ pub(crate) fn judge(
     let drawn = count_drawn(stores, pool, deed, &subject);
     let asked = ask(alloc, setup, stores, station, deed, &subject, &made, drawn)?;
     match broken(&asked) {
-        Some(rule) => Ok(Judged::Breaks(rule)),
+        Some(rule) => Ok(Judged::Breaks(rule, subject)),
         None => Ok(Judged::Allowed(asked.found)),
     }
 }

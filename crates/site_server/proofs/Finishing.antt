@@ -1,30 +1,28 @@
 -- The end of a session.
-use Rattle.std.proofs.Common.{◌≡◌, ◌⊎◌, inl, inr, ◌+◌, ◌-◌, ◌<◌, ◌≤◌, ℕ, Bool, true, false, List, [], ◌∷◌, ◌++◌, length, map, drop, Option, Some, None, Result, Ok, Err, sym, refl, ap, ◌∙◌, subst, arith, append_assoc, append-nil, MatchBool}
+use Rattle.std.proofs.Common.{◌≡◌, inl, inr, ◌≤◌, ℕ, Bool, true, false, List, [], ◌∷◌, ◌++◌, length, map, drop, Option, Some, Err, sym, refl, ap, ◌∙◌, subst, arith, append-nil, MatchBool}
 use Rattle.std.specs.List.{concat}
 use Rattle.std.specs.Io.KnownBytes.{Consumes, Appends, IsAtEnd}
-use Rattle.std.proofs.KnownBytes.{Consumes-nil, Appends-nil, Appends-trans}
-use Rattle.outside.specs.Causes.{Rose, HasCauseIf}
+use Rattle.std.proofs.KnownBytes.{Appends-trans}
+use Rattle.outside.specs.Causes.{HasCauseIf}
 use Rattle.outside.specs.Doors.{wire}
 use Rattle.turn_desk.specs.declared.view.Noted.{Noted}
 use Rattle.turn_desk.specs.declared.view.Origin.{Origin}
 use Rattle.station_http.specs.declared.fault.HttpFault.{HttpFault}
 use Rattle.station_http.specs.declared.fault.HttpFault.TheVariants as http
 use Rattle.station_http.specs.declared.asked.Asked.{Asked}
-use Rattle.station_http.specs.Found.{Found, whole, IsFound}
-use Rattle.station_http.specs.Talk.{IsTalk, IsSession, IsFront, IsEnd, is_last}
+use Rattle.station_http.specs.Talk.{IsTalk, IsFront}
 use Rattle.station_http.specs.Sessions.{IsWholeBy}
 use Rattle.station_http.specs.Gives.{EndsAt, IsAlive, is_read_fault as is_read}
 use Rattle.station_http.specs.Limits.{session_limit}
-use Rattle.station_http.specs.Puts.{IsPart}
 use Rattle.site_server.specs.declared.end.SessionEnd.{SessionEnd}
-use Rattle.site_server.specs.declared.end.SessionEnd.TheVariants.{Ended, Cut, Refused, ReadFault, WriteFault, SessionLong, Memory}
+use Rattle.site_server.specs.declared.end.SessionEnd.TheVariants.{Cut, Refused, ReadFault, SessionLong, Memory}
 use Rattle.site_answers.specs.declared.fault_name.FaultName.{FaultName}
 use Rattle.site_answers.specs.declared.fault_name.FaultName.TheVariants as named
-use Rattle.site_answers.specs.Saying.{refusal_of, status_of}
+use Rattle.site_answers.specs.Saying.{status_of}
 use Rattle.site_server.specs.Exchanges.{Exchange, text_in, asks_of, AreGiven}
 use Rattle.site_server.specs.Serving.{IsServed, IsPut, IsFaultOf, EndsAs, last_text, is_read_fault, is_write_fault}
-use Rattle.site_server.specs.Closing.{ClosesWith, EndsBy, EndsWith, is_spent, is_quiet, quiet_end, end_with}
-use Rattle.site_server.proofs.Goings.{texts_more, concat_more}
+use Rattle.site_server.specs.Closing.{ClosesWith, EndsBy, end_with}
+use Rattle.site_server.proofs.Goings.{concat_more}
 
 on_close : (P P' Q Q' : Type 0) (b : Bool) → (P → P') → (Q → Q') → MatchBool b P Q → MatchBool b P' Q'
 on_close P P' Q Q' true f g m = f m

@@ -1,4 +1,7 @@
 mod Goings
+mod Grouping
+mod Gathering
+mod Putting
 mod Finishing
 mod Sessions
 mod Seen

@@ -1,5 +1,5 @@
 -- The end that the bytes tell.
-use Rattle.std.proofs.Common.{◌≡◌, ℕ, Bool, true, false, List, length, nat_le, Option, Some, None, refl, sym, ap, ◌∙◌}
+use Rattle.std.proofs.Common.{◌≡◌, ℕ, true, List, length, nat_le, Option, Some, None, refl, sym, ap, ◌∙◌}
 use Rattle.station_http.specs.declared.asked.Asked.{Asked}
 use Rattle.station_http.specs.declared.fault.HttpFault.{HttpFault}
 use Rattle.station_http.specs.declared.fault.HttpFault.TheVariants as http

@@ -4,7 +4,7 @@ use Rattle.station_http.specs.declared.fault.HttpFault.{HttpFault}
 use Rattle.station_http.specs.declared.fault.HttpFault.TheVariants as http
 use Rattle.station_http.specs.Puts.{IsPart}
 use Rattle.site_server.specs.declared.end.SessionEnd.{SessionEnd}
-use Rattle.site_server.specs.declared.end.SessionEnd.TheVariants.{Ended, Cut, Refused, ReadFault, WriteFault, SessionLong, Memory}
+use Rattle.site_server.specs.declared.end.SessionEnd.TheVariants.{Cut, Refused, ReadFault, WriteFault, SessionLong, Memory}
 use Rattle.site_answers.specs.declared.fault_name.FaultName.{FaultName}
 use Rattle.site_answers.specs.declared.fault_name.FaultName.TheVariants as named
 use Rattle.site_answers.specs.Saying.{refusal_of, status_of}

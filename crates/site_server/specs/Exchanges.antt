@@ -1,5 +1,5 @@
 -- Requests, their answers, and the points of a pass's seen list at which these are given.
-use Rattle.std.specs.Prelude.{◌≡◌, ℕ, List, [], ◌∷◌, ◌++◌}
+use Rattle.std.specs.Prelude.{◌≡◌, ◌≢◌, ℕ, List, [], ◌∷◌, ◌++◌}
 use Rattle.turn_desk.specs.declared.view.Noted.{Noted}
 use Rattle.turn_desk.specs.declared.view.Origin.{Origin}
 use Rattle.turn_desk.specs.Notes.{IsOf, IsOfOthers}
@@ -29,8 +29,9 @@ point seen x = seen ++ x.others
 abbrev pub seen_after : List Noted → Exchange → List Noted
 seen_after seen x = (seen ++ x.others) ++ x.mine
 
--- the group is answered by one step, or from what was seen
+-- the group, which has a request at least, is answered by one step, or from what was seen
 pub record IsGiven (origin : Origin) (worker : ℕ) (seen : List Noted) (x : Exchange) : Type 0 where
+  pub some : x.asks ≢ []
   pub others : IsOfOthers worker x.others
   pub mine : IsOf worker x.mine
   pub answers : AnswersAll origin worker x.asks (point seen x) (seen_after seen x) x.answers

@@ -1,22 +1,26 @@
 //! One session.
-ghost use Rattle.std.specs.Prelude.{◌≡◌, ◌≤◌, ◌<◌, ◌+◌, ◌^◌, ℕ, List, true, false};
+ghost use Rattle.std.specs.Prelude.{◌≡◌, ◌≤◌, ◌<◌, ◌+◌, ◌^◌, ℕ, List, [], true, false};
 ghost use Rattle.outside.specs.Causes.{HasCauseIf};
 ghost use Rattle.outside.specs.Devices.{Puts};
 ghost use Rattle.outside.specs.Doors.{wire};
+ghost use Rattle.station_http.specs.declared.stage.Stage.TheVariants.{Open};
 ghost use Rattle.site_server.specs.Serving.{IsServed, is_write_fault};
 ghost use Rattle.site_server.specs.Closing.{ClosesWith, EndsBy, is_spent, is_quiet, quiet_end, end_with};
 
+use crate::answers::{GROUP, answer_gathered, take_in};
 use crate::end::SessionEnd;
 use crate::talk::{next_of, put_to};
 use outside::{Clock, Disk, Link, Words};
 use site_answers::{FaultName, Response, refusal};
-use site_turns::{DeskStore, answer};
-use station_http::{Asked, Conn, HttpFault};
+use site_turns::{DeskStore, Post};
+use station_http::{Conn, HttpFault};
 use std::alloc::Global;
+use std::collections::VecDeque;
 use std::sync::Wait;
 use turn_desk::{Desk, Pass};
 
-/// Answers the requests of a link, one after the other, until its session ends.
+/// Answers the requests of a link, in their order, until its session ends. POSTs whose bodies read as deeds are gathered
+/// while the next request or fault was read already, up to 16, and answered in one turn where the site has their stations.
 pub fn serve_connection<L: Link, D: Disk, C: Clock, W: Words, R: Wait>(
     rt: &R,
     alloc: Global,
@@ -35,18 +39,48 @@ pub fn serve_connection<L: Link, D: Disk, C: Clock, W: Words, R: Wait>(
     let Ok(mut conn) = Conn::new(alloc) else {
         return close_with(link, FaultName::Memory);
     };
+    let Ok(mut posts) = VecDeque::with_capacity(alloc, GROUP) else {
+        return close_with(link, FaultName::Memory);
+    };
+    serve_requests(rt, alloc, desk, pass, link, &mut conn, &mut posts)
+}
+
+/// The requests of a connection, from its first byte on.
+fn serve_requests<L: Link, D: Disk, C: Clock, W: Words, R: Wait>(
+    rt: &R,
+    alloc: Global,
+    desk: &Desk<DeskStore<D, C, W>>,
+    pass: &mut Pass,
+    link: &mut L,
+    conn: &mut Conn,
+    posts: &mut VecDeque<Post>,
+) -> SessionEnd
+    requires own { pass.old.desk ≡ desk.now }
+    requires turns { pass.old.turns < 2 ^ 56 }
+    requires fresh { (conn.old.pending ≡ []) × (conn.old.taken ≡ 0) × (conn.old.stage ≡ Open) }
+    requires none { posts.old.items ≡ [] }
+    ensures same { (pass.new.desk ≡ desk.now) × (pass.new.worker ≡ pass.old.worker) × (pass.new.last ≡ pass.old.last) }
+    ensures turns { pass.new.turns ≤ pass.old.turns + 2 ^ 36 }
+    ensures served { IsServed desk.now.origin pass.old.worker
+        (wire (L.left link.old) (L.held link.old) (L.read_faults link.old) (L.write_faults link.old))
+        (wire (L.left link.new) (L.held link.new) (L.read_faults link.new) (L.write_faults link.new)) pass.old.seen pass.new.seen result }
+{
     'requests: loop {
-        match next_of(&mut conn, link) {
-            Err(fault) => return end_by(link, fault),
-            Ok(None) => return SessionEnd::Ended,
+        match next_of(conn, link) {
+            Err(fault) => {
+                let Ok(()) = answer_gathered(rt, alloc, desk, pass, link, posts, false) else {
+                    return SessionEnd::WriteFault;
+                };
+                return end_by(link, fault);
+            }
+            Ok(None) => {
+                let Ok(()) = answer_gathered(rt, alloc, desk, pass, link, posts, false) else {
+                    return SessionEnd::WriteFault;
+                };
+                return SessionEnd::Ended;
+            }
             Ok(Some(asked)) => {
-                let Asked {
-                    target,
-                    body,
-                    close,
-                } = asked;
-                let said = answer(rt, alloc, desk, pass, target, body.bytes());
-                let Ok(()) = put_to(&said, link, close) else {
+                let Ok(()) = take_in(rt, alloc, desk, pass, link, conn, posts, asked) else {
                     return SessionEnd::WriteFault;
                 };
             }

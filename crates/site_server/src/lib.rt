@@ -5,6 +5,7 @@
 //! order, at a point of the list of notes that the worker's pass has seen, and the end says how the bytes end.
 #![tactic(auto)]
 
+mod answers;
 mod connection;
 mod door;
 mod end;

@@ -1,5 +1,4 @@
 pub mod Desked
-mod Stationed
 mod Printed
 pub mod Stepped
 pub mod Counted

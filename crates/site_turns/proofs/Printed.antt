@@ -19,7 +19,10 @@ use Rattle.site_store.specs.Noting.{Noted}
 use Rattle.site_store.specs.States.{State, all_of}
 use Rattle.site_store.specs.Steps.{Answers, AreTries, Lost, Mended, Steps, Tries, Try, Unmended, Written, lost_from, lost_in, new_in, outcomes_in}
 use Rattle.site_turns.specs.Outcomes.{IsPrintable}
-use Rattle.site_turns.proofs.Stationed.{KeepsProper, kept_fits}
+
+-- what a number of a station has kept names stations of the setup alone
+abbrev pub NamesStations : Type 0
+NamesStations = (site : Setup) (history : List Entry) (station number : ℕ) (deed : Deed) (reply : Reply) → IsLawful site history → All IsProperEntry history → Means site history station number deed (Kept reply) → NamesStationsOf site reply
 
 -- each entry of a lawful history is kept with the reply that it got
 abbrev pub KeepsReplies : Type 0
@@ -38,14 +41,14 @@ all_memory : {X : Type 0} (site : Setup) (xs : List X) → Every (IsPrintable si
 all_memory site [] = tt
 all_memory site (x ∷ xs) = (tt, all_memory site xs)
 
-module _ (keeps : KeepsProper) (replies : KeepsReplies) (stays : StaysKept) (site : Setup) (history : List Entry) (lawful : IsLawful site history) (proper : All IsProperEntry history) where
+module _ (names : NamesStations) (replies : KeepsReplies) (stays : StaysKept) (site : Setup) (history : List Entry) (lawful : IsLawful site history) (proper : All IsProperEntry history) where
   kept_here : (front more : List Entry) (ask : Ask) (reply : Reply) → history ≡ front ++ more → Means site front ask.station ask.number ask.deed (Kept reply) → NamesStationsOf site reply
   kept_here front more ask reply parts means =
-      kept_fits keeps site history ask.station ask.number ask.deed reply lawful proper (subst (λ (h : List Entry). Means site h ask.station ask.number ask.deed (Kept reply)) (sym parts) (stays site front more ask.station ask.number ask.deed reply means))
+      names site history ask.station ask.number ask.deed reply lawful proper (subst (λ (h : List Entry). Means site h ask.station ask.number ask.deed (Kept reply)) (sym parts) (stays site front more ask.station ask.number ask.deed reply means))
 
   entered_here : (front more : List Entry) (entry : Entry) → history ≡ front ++ entry ∷ more → NamesStationsOf site (reply_to site (world_of site front) entry)
   entered_here front more entry parts =
-      kept_fits keeps site history entry.station entry.number entry.deed (reply_to site (world_of site front) entry) lawful proper
+      names site history entry.station entry.number entry.deed (reply_to site (world_of site front) entry) lawful proper
       (subst (λ (h : List Entry). Means site h entry.station entry.number entry.deed (Kept (reply_to site (world_of site front) entry))) (sym parts) (replies site front more entry (subst (λ (h : List Entry). IsLawful site h) parts lawful)))
 
   -- a request whose new entry, if it has one, is in the history

@@ -7,7 +7,8 @@ ghost use Rattle.site_turns.specs.Answering.{Submits};
 ghost use Rattle.site_turns.specs.Origins.{IsServing, desk_notes, origin_of};
 ghost use Rattle.site_turns.specs.Outcomes.{IsPrintable};
 
-use deed_words::{Ask, numbers_mean_one_thing, worlds_are_proper};
+use deed_json::replies_name_stations;
+use deed_words::{Ask, numbers_mean_one_thing};
 use outside::{Clock, Disk, Words};
 use site_store::{Outcome, Store};
 
@@ -30,7 +31,7 @@ pub(crate) fn step<D: Disk, C: Clock, W: Words>(
     ensures origin { origin_of D.Disk C.Clock W.Words store.new ≡ origin_of D.Disk C.Clock W.Words store.old }
     ensures serving { IsServing D.Disk C.Clock W.Words store.new }
 {
-    worlds_are_proper();
+    replies_name_stations();
     numbers_mean_one_thing();
     store.submit_all(worker, asks, outcomes);
     store.site().tell_kept();

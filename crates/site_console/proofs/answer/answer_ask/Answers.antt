@@ -7,4 +7,4 @@ returns-clause-printable g c =
     let site = c.site.result.now in
     let lawful = rw (c.site.ensures) at c.tell_kept.ensures.lawful in
     let proper = rw (c.site.ensures) at c.tell_kept.ensures.proper in
-    turned_fits c.worlds_are_proper.ensures.entry c.numbers_mean_one_thing.ensures.answered _ _ _ c.args.ask _ c.turn-outcome.result _ t.setup lawful proper t.turns.3
+    turned_fits c.replies_name_stations.ensures.kept c.numbers_mean_one_thing.ensures.answered _ _ _ c.args.ask _ c.turn-outcome.result _ t.setup lawful proper t.turns.3

@@ -1,10 +1,10 @@
 use Rattle.site_console.proofs.Completing.{obeyed_run, obeyed_init}
 use Rattle.site_console.proofs.LookDone.{obeyed_look}
-use Rattle.site_console.proofs.Statuses.{is_status, bad_words, refused_ends}
+use Rattle.site_console.proofs.Statuses.{is_status, bad_words, no_door, refused_ends}
 use Rattle.site_console.proofs.top.site_top.Goals as goal
 
 pub returns-clause-statuses : goal.returns-clause-statuses
-returns-clause-statuses g c = is_status c.obey-ending.result.0 c.end_with.result c.end_with.ensures.status
+returns-clause-statuses g c = is_status c.obey-ending.result.0 c.end_with.result (no_door g.D.Disk g.C.Clock g.W.Words _ _ _ _ _ _ _ _ _ c.obey-ending.result.0 c.obey-ending.ensures.session) c.end_with.ensures.status
 
 pub returns-clause-bad_words : goal.returns-clause-bad_words
 returns-clause-bad_words g c = bad_words g.D.Disk g.C.Clock g.W.Words _ _ _ _ _ _ _ _ _ c.obey-ending.result.0 c.end_with.result c.end_with.ensures.status c.obey-ending.ensures.session

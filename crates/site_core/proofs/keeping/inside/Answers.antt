@@ -11,7 +11,7 @@ use Rattle.site_core.proofs.Making.{children_there}
 use Rattle.site_core.proofs.keeping.inside.Goals as goal
 
 pub returns-in_default : goal.returns-in_default
-returns-in_default c = c.new-names.ensures ∙ sym (inside_nowhere c.args.stores.now.content c.args.sscc.now c.tell_whole.ensures.there (sym c.find_unit.ensures ∙ c.in_default.is))
+returns-in_default c sscc place = c.new-names.ensures ∙ sym (inside_nowhere c.args.stores.now.content sscc c.tell_whole.ensures.there (sym place ∙ c.in_default.is))
 
 pub loop-node-init : goal.loop-node-init
 loop-node-init c =
@@ -25,10 +25,10 @@ loop-node-init c =
     }
 
 pub returns : goal.returns
-returns c =
+returns c sscc place =
     let content = c.args.stores.now.content in
     let name = node_name (row_names content) (unit_codes content) in
     let nodes : c.into_iter-node-iterator.result ≡ tree.inside c.in-Some.unit content.links =
     c.into_iter-node-iterator.ensures.into_iter_gives ∙ c.children-node-items.ensures ∙ ap (λ (links : List Link). tree.inside c.in-Some.unit links) c.tree.ensures.links in
     sym (append-nil c.loop-node.names) ∙ ap (λ (ns : List Node). c.loop-node.names ++ map name ns) (sym c.in-None.ensures.steps.0) ∙ c.loop-node.invariant.told ∙ ap (λ (ns : List Node). map name ns) nodes
-    ∙ sym (inside_named content c.args.sscc.now c.in-Some.unit c.tell_whole.ensures.units_apart c.tell_whole.ensures.there (sym c.find_unit.ensures ∙ c.in-Some.is))
+    ∙ sym (inside_named content sscc c.in-Some.unit c.tell_whole.ensures.units_apart c.tell_whole.ensures.there (sym place ∙ c.in-Some.is))

@@ -1,8 +1,9 @@
-use Rattle.std.proofs.Common.{[], sym, ap, ◌∙◌}
+use Rattle.std.proofs.Common.{[], sym, ap, ◌∙◌, subst}
 use Rattle.std.proofs.KnownBytes.{Consumes-nil}
 use Rattle.deed_words.specs.Rules.{broken}
 use Rattle.batch_book.specs.Content.{world_in}
 use Rattle.deed_words.specs.Deeds.{batch_named}
+use Rattle.site_rules.specs.Asked.{IsSubject}
 use Rattle.site_rules.specs.Suits.{is_about_batch}
 use Rattle.site_deeds.proofs.OfDraw.{draw_batch}
 use Rattle.site_deeds.proofs.OfFound.{batch_some, batch_place}
@@ -13,7 +14,7 @@ pub returns-in-Ok-Breaks-clause-decides : goal.returns-in-Ok-Breaks-clause-decid
 returns-in-Ok-Breaks-clause-decides g c = (
   [],
   Consumes-nil (g.W.Words.words_left c.args.words.now),
-  refused_decides c.args.setup.now c.args.stores.now.content c.args.station c.args.deed.now c.refused.result c.in-Ok-Breaks.rule c.tell_whole.ensures (breaks c.args.setup.now c.args.stores.now.content c.args.station c.args.deed.now c.in-Ok-Breaks.field-0 c.in-Ok-Breaks.rule c.in-Ok-Breaks.ensures c.in-Ok-Breaks.field-0-is) c.refused.ensures.reply c.refused.ensures.change c.refused.ensures.draw,
+  refused_decides c.args.setup.now c.args.stores.now.content c.args.station c.args.deed.now c.refused.result c.in-Ok-Breaks.rule c.tell_whole.ensures (breaks c.args.setup.now c.args.stores.now.content c.args.station c.args.deed.now c.in-Ok-Breaks.field-0 c.in-Ok-Breaks.rule c.in-Ok-Breaks.subject c.in-Ok-Breaks.ensures c.in-Ok-Breaks.field-0-is).0 (subst (IsSubject c.args.stores.now.content c.args.deed.now) (sym c.refused.ensures.subject) (breaks c.args.setup.now c.args.stores.now.content c.args.station c.args.deed.now c.in-Ok-Breaks.field-0 c.in-Ok-Breaks.rule c.in-Ok-Breaks.subject c.in-Ok-Breaks.ensures c.in-Ok-Breaks.field-0-is).1) c.refused.ensures.reply c.refused.ensures.change c.refused.ensures.draw,
 )
 
 pub decide_draw-requires-clause-allowed : goal.decide_draw-requires-clause-allowed

@@ -9,7 +9,7 @@ pub returns-in-Some : goal.returns-in-Some
 unfolding IsJudged
 returns-in-Some c =
     let e = c.in_ok-asked.ensures in
-    (λ z. broken (sym e.setup z) (world_in (sym e.stores z).content) (sym e.station z) (sym e.deed z)) ∙ sym c.broken.ensures ∙ c.in-Some.is
+    ((λ z. broken (sym e.setup z) (world_in (sym e.stores z).content) (sym e.station z) (sym e.deed z)) ∙ sym c.broken.ensures ∙ c.in-Some.is, c.find_subject-subject.ensures)
 
 pub returns : goal.returns
 unfolding IsJudged

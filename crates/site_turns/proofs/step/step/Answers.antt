@@ -29,7 +29,7 @@ returns-clause-printable g c =
     let lawful = rw (c.site.ensures) at c.tell_kept.ensures.lawful in
     let proper = rw (c.site.ensures) at c.tell_kept.ensures.proper in
     let steps = subst (λ (site : Setup). Steps site end (store_state s) c.args.worker c.args.asks.items t.0 c.submit_all.new.outcomes.items (store_state u) t.3.0) (sym e.setup) t.3.3 in
-    steps_fit c.worlds_are_proper.ensures.entry c.numbers_mean_one_thing.ensures.answered c.numbers_mean_one_thing.ensures.kept u.site.setup u.site.history lawful proper end (store_state s) c.args.worker c.args.asks.items t.0 c.submit_all.new.outcomes.items (store_state u) t.3.0 refl steps
+    steps_fit c.replies_name_stations.ensures.kept c.numbers_mean_one_thing.ensures.answered c.numbers_mean_one_thing.ensures.kept u.site.setup u.site.history lawful proper end (store_state s) c.args.worker c.args.asks.items t.0 c.submit_all.new.outcomes.items (store_state u) t.3.0 refl steps
 
 pub returns-clause-serving : goal.returns-clause-serving
 returns-clause-serving g c =

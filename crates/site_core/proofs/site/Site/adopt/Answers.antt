@@ -1,6 +1,8 @@
 use Rattle.std.proofs.Common.{◌≤◌, Option, sym, ap, subst}
 use Rattle.std.specs.Prelude.{slice_index}
 use Rattle.deed_words.specs.declared.entry.Entry.{Entry}
+use Rattle.batch_book.specs.Content.{Content}
+use Rattle.site_rules.specs.Asked.{IsSubject}
 use Rattle.move_list.specs.declared.moved.Moved.{Moved}
 use Rattle.move_list.specs.Held.{HasRoom}
 use Rattle.site_core.proofs.Coming.{IsPlanOf, IsMoved, moved_as, few_as, next_from}
@@ -18,6 +20,9 @@ returns-in-Err-Memory-clause-kept c = room_kept _ _ c.decide_known.ensures.kept
 
 pub returns-in_default-ready-clause-kept : goal.returns-in_default-ready-clause-kept
 returns-in_default-ready-clause-kept c = room_kept _ _ (roomier _ _ _ c.decide_known.ensures.kept c.ready.ensures.kept)
+
+pub kept_move-requires : goal.kept_move-requires
+kept_move-requires c = record { subject = subst (λ (k : Content). IsSubject k c.args.entry.deed c.in-Ok.decided.subject) (sym c.decide_known.ensures.same.2) c.in-Ok.ensures.known.subject_is }
 
 pub planned-requires : goal.planned-requires
 planned-requires c = record { some = c.in-Ok.ensures.known.some }

@@ -6,12 +6,16 @@ use Rattle.deed_words.specs.Replies.{reply_to}
 use Rattle.deed_words.specs.Rules.{broken}
 use Rattle.deed_words.specs.World.{World}
 use Rattle.batch_book.specs.Content.{world_in}
+use Rattle.site_rules.specs.Asked.{IsSubject}
 use Rattle.move_list.specs.Kept.{kept_of}
 use Rattle.site_core.specs.declared.kept.Kept.{Kept}
 use Rattle.site_core.specs.Entries.{history_in}
 use Rattle.site_core.specs.View.{View}
 use Rattle.site_core.proofs.Making.{if_ok, ok_always}
 use Rattle.site_core.proofs.site.Site.kept_move.Goals as goal
+
+pub kept_move-requires : goal.kept_move-requires
+kept_move-requires c = record { subject = subst (λ (v : View). IsSubject v.content c.args.deed.now c.args.subject.now) (sym c.self.view_is) c.requires.subject }
 
 pub returns-clause-few : goal.returns-clause-few
 returns-clause-few c =

@@ -1,6 +1,8 @@
 use Rattle.std.proofs.Common.{◌≤◌, Option, sym, ap, ◌∙◌, subst}
 use Rattle.std.specs.Prelude.{slice_index}
 use Rattle.deed_words.specs.declared.entry.Entry.{Entry}
+use Rattle.batch_book.specs.Content.{Content}
+use Rattle.site_rules.specs.Asked.{IsSubject}
 use Rattle.move_list.specs.declared.moved.Moved.{Moved}
 use Rattle.move_list.specs.Held.{HasRoom}
 use Rattle.site_core.proofs.Coming.{IsPlanOf, IsMoved, moved_as, few_as, makes, no_plan, unplanned}
@@ -30,6 +32,9 @@ returns-in_default-ready-clause-plan g c =
 
 pub returns-in_default-ready-clause-kept : goal.returns-in_default-ready-clause-kept
 returns-in_default-ready-clause-kept g c = room_kept _ _ (roomier _ _ _ c.decide.ensures.kept c.ready.ensures.kept)
+
+pub kept_move-requires : goal.kept_move-requires
+kept_move-requires g c = record { subject = subst (λ (k : Content). IsSubject k c.args.ask.deed c.in-Ok.decided.subject) (sym c.decide.ensures.same.2) c.in-Ok.ensures.decides.2.0.subject_is }
 
 pub planned-requires : goal.planned-requires
 planned-requires g c = record { some = c.in-Ok.ensures.decides.2.0.some }

@@ -1,6 +1,6 @@
--- The stations that a reply names are of the site.
+-- The stations that a reply names are of the setup.
 use Rattle.std.proofs.Common.{◌≡◌, ◌<◌, ◌≤◌, ◌+◌, ◌-◌, ◌++◌, ℕ, zero, suc, Bool, true, false, not, ◌&&◌, cond, List, [], ◌∷◌, length, map, Option, None, Some, refl, sym, subst, arith, nat_eq}
-use Rattle.std.proofs.lemmas.List.Elements.{recursion_from_All}
+use Rattle.std.proofs.lemmas.List.Elements.{All-from_recursion, recursion_from_All}
 use Rattle.std.specs.Prelude.{All, filter, find, option_map, option_and_then, if◌then◌else◌, is_none}
 use Rattle.std.specs.List.{AllByRecursion as Every, slice_get}
 use Rattle.epc_urn.specs.declared.epc.Epc.{Epc}
@@ -347,13 +347,16 @@ pub reply_fits : (site : Setup) (w : World) (entry : Entry) → IsProperWorld si
 unfolding reply_to
 reply_fits site w entry proper = replied_fits site w entry (broken site w entry.station entry.deed) (broken_fits site w entry.station entry.deed proper)
 
--- ---- replies that were kept
+-- ---- the replies of a history
 
 -- a lawful entry keeps a world proper
 abbrev pub KeepsProper : Type 0
 KeepsProper = (site : Setup) (history : List Entry) (w : World) (entry : Entry) → MayFollow site history w entry → IsProperEntry entry → IsProperWorld site w → IsProperWorld site (after site w entry)
 
-told_all : KeepsProper → (site : Setup) (history : List Entry) (w : World) (entries : List Entry) → AllFollow site history w entries → Every IsProperEntry entries → IsProperWorld site w → Every (λ (told : Entry × Reply). NamesStationsOf site told.1) (told_from site w entries)
+abbrev Fitting : Setup → Entry × Reply → Type 0
+Fitting site told = NamesStationsOf site told.1
+
+told_all : KeepsProper → (site : Setup) (history : List Entry) (w : World) (entries : List Entry) → AllFollow site history w entries → Every IsProperEntry entries → IsProperWorld site w → Every (Fitting site) (told_from site w entries)
 unfolding AllFollow told_from steps_from
 told_all keeps site history w [] a p world = tt
 told_all keeps site history w (entry ∷ entries) a p world =
@@ -375,8 +378,16 @@ there_holds P (y ∷ xs) (suc k) x all e = there_holds P xs k x all.1 e
 nothing_proper : (site : Setup) → IsProperWorld site nothing_yet
 nothing_proper site = record { batches = tt; lines = tt; declared = tt }
 
+told_fits : KeepsProper → (site : Setup) (history : List Entry) → IsLawful site history → All IsProperEntry history → Every (Fitting site) (told_from site nothing_yet history)
+unfolding IsLawful
+told_fits keeps site history lawful proper = told_all keeps site [] nothing_yet history lawful (recursion_from_All IsProperEntry history proper) (nothing_proper site)
+
+-- each reply that a history told
+pub all_fit : KeepsProper → (site : Setup) (history : List Entry) → IsLawful site history → All IsProperEntry history → All (λ told. NamesStationsOf site told.1) (told_from site nothing_yet history)
+all_fit keeps site history lawful proper = All-from_recursion (Fitting site) (told_from site nothing_yet history) (told_fits keeps site history lawful proper)
+
+-- what a number of a station has kept is one of them
 pub kept_fits : KeepsProper → (site : Setup) (history : List Entry) (station number : ℕ) (deed : Deed) (reply : Reply) → IsLawful site history → All IsProperEntry history → Means site history station number deed (Kept reply) → NamesStationsOf site reply
-unfolding Means IsTold told_to IsLawful
+unfolding Means IsTold told_to
 kept_fits keeps site history station number deed reply lawful proper means =
-    let all = told_all keeps site [] nothing_yet history lawful (recursion_from_All IsProperEntry history proper) (nothing_proper site) in
-    there_holds (λ (told : Entry × Reply). NamesStationsOf site told.1) _ (number - 1) (means.0, reply) (all_filtered (λ (told : Entry × Reply). NamesStationsOf site told.1) (λ told. nat_eq told.0.station station) (told_from site nothing_yet history) all) means.1.1
+    there_holds (Fitting site) _ (number - 1) (means.0, reply) (all_filtered (Fitting site) (λ told. nat_eq told.0.station station) (told_from site nothing_yet history) (told_fits keeps site history lawful proper)) means.1.1
