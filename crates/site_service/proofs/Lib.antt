@@ -1,0 +1,4 @@
+mod Rows
+mod Left
+mod Dues
+mod Crossing

@@ -1,0 +1,4 @@
+pub mod Workers
+pub mod Doors
+pub mod Sites
+pub mod Serves
