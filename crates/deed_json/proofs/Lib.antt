@@ -5,3 +5,4 @@ mod Floats
 mod Json
 pub mod Urns
 mod Stationed
+mod DeedWords

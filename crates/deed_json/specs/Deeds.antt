@@ -175,7 +175,7 @@ rows_at d = text_at member.Csv d >>= (λ text. rows_or (orders_of text))
 
 -- ---- deeds
 
--- the word that a deed has in JSON
+-- the word that a text is
 unfoldable pub word_of : Text → Option DeedWord
 word_of text =
     if bytes_eq text (codes "order") then Some word.Order
@@ -293,3 +293,31 @@ if_object (Some ms) due = due
 -- what a value says, or its first fault
 unfoldable pub said_of : Data → Result Said DeedFault
 said_of d = if_object (as_object d) (text_at member.Do d >>= (λ text. or_bad_member member.Do (word_of text) >>= (λ w. said_by_word w d)))
+
+-- ---- the word of a deed
+
+-- the word by which JSON asks for a deed
+unfoldable pub deed_word : Deed → Text
+deed_word (deed.Order row) = codes "order"
+deed_word (deed.Orders rows) = codes "orders"
+deed_word (deed.Start name) = codes "start"
+deed_word (deed.Draw name count) = codes "draw"
+deed_word (deed.Lend name count) = codes "lend"
+deed_word (deed.Commission name printed) = codes "commission"
+deed_word (deed.Spoil name serials) = codes "spoil"
+deed_word (deed.Giveback name serials) = codes "giveback"
+deed_word (deed.Sample name items) = codes "sample"
+deed_word (deed.Reject name items) = codes "reject"
+deed_word (deed.Reinstate name items) = codes "reinstate"
+deed_word (deed.Destroy name items) = codes "destroy"
+deed_word (deed.Decommission name items) = codes "decommission"
+deed_word (deed.Container name level) = codes "container"
+deed_word (deed.Pack unit children) = codes "pack"
+deed_word (deed.Unpack unit children) = codes "unpack"
+deed_word (deed.UnpackAll unit) = codes "unpack_all"
+deed_word (deed.Seal unit) = codes "seal"
+deed_word (deed.Unseal unit) = codes "unseal"
+deed_word (deed.Void unit) = codes "void"
+deed_word (deed.Declare name good spoiled returned) = codes "declare"
+deed_word (deed.Close name) = codes "close"
+deed_word (deed.Amend name quantity) = codes "amend"

@@ -1,5 +1,6 @@
-//! Laws of replies.
-ghost use Rattle.std.specs.Prelude.{All, List, ℕ};
+//! Laws of deeds and replies.
+ghost use Rattle.std.specs.Prelude.{◌≡◌, All, List, ℕ, Ok};
+ghost use Rattle.serde_json.specs.Data.{Data};
 ghost use Rattle.deed_words.specs.Setups.{Setup};
 ghost use Rattle.deed_words.specs.World.{World, nothing_yet};
 ghost use Rattle.deed_words.specs.ProperWorlds.{IsProperWorld};
@@ -9,8 +10,11 @@ ghost use Rattle.deed_words.specs.Proper.{IsProperEntry};
 ghost use Rattle.deed_words.specs.Replies.{reply_to};
 ghost use Rattle.deed_words.specs.declared.deed.Deed.{Deed};
 ghost use Rattle.deed_words.specs.declared.entry.Entry.{Entry};
+ghost use Rattle.deed_words.specs.declared.entry.Said.{Said};
 ghost use Rattle.deed_words.specs.declared.reply.Reply.{Reply};
+ghost use Rattle.deed_json.specs.Deeds.{deed_word, said_of, text_at};
 ghost use Rattle.deed_json.specs.Replies.{NamesStationsOf};
+ghost use Rattle.deed_json.specs.declared.deed_fault.Member.TheVariants.{Do};
 
 use deed_words::worlds_are_proper;
 
@@ -25,3 +29,8 @@ pub fn replies_name_stations()
 {
     worlds_are_proper();
 }
+
+/// Whatever JSON reads as a deed has the deed's word at `do`.
+pub fn deeds_are_asked_by_word()
+    ensures { (d : Data) (said : Said) → said_of d ≡ Ok said → text_at Do d ≡ Ok (deed_word said.deed) }
+{}

@@ -14,7 +14,8 @@ use Rattle.site_core.specs.Seen.{IsLogOf}
 use Rattle.site_deeds.proofs.Shared.{got}
 use Rattle.site_store.proofs.Taking.{take_here}
 use Rattle.site_stores.proofs.Finding.{read_at}
-use Rattle.site_console.specs.Logs.{deed_word, joined, line_of, lines_from, log_line, log_lines, operator_word, verdict_word}
+use Rattle.deed_json.specs.Deeds.{deed_word}
+use Rattle.site_console.specs.Logs.{joined, line_of, lines_from, log_line, log_lines, operator_word, verdict_word}
 
 abbrev step_of : World → Entry → Step
 step_of w entry = record { before = w; entry = entry }

@@ -3,39 +3,12 @@ use Rattle.std.specs.Prelude.{◌-◌, ℕ, suc, List, [], ◌∷◌, ◌++◌, 
 use Rattle.deed_words.specs.Names.{Text}
 use Rattle.deed_words.specs.Setups.{Setup}
 use Rattle.deed_words.specs.Walk.{Step, steps_of, rule_at}
-use Rattle.deed_words.specs.declared.deed.Deed.{Deed}
-use Rattle.deed_words.specs.declared.deed.Deed.TheVariants as kind
 use Rattle.deed_words.specs.declared.entry.Entry.{Entry}
 use Rattle.deed_words.specs.declared.rule.Rule.{Rule}
 use Rattle.deed_words.specs.declared.rule.Rule.TheVariants as rule
+use Rattle.deed_json.specs.Deeds.{deed_word}
 use Rattle.deed_json.specs.Replies.{station_name}
 use Rattle.site_console.specs.Newline.{newline}
-
--- the word that a deed has in a request
-unfoldable pub deed_word : Deed → Text
-deed_word (kind.Order row) = codes "order"
-deed_word (kind.Orders rows) = codes "orders"
-deed_word (kind.Start name) = codes "start"
-deed_word (kind.Draw name count) = codes "draw"
-deed_word (kind.Lend name count) = codes "lend"
-deed_word (kind.Commission name printed) = codes "commission"
-deed_word (kind.Spoil name serials) = codes "spoil"
-deed_word (kind.Giveback name serials) = codes "giveback"
-deed_word (kind.Sample name items) = codes "sample"
-deed_word (kind.Reject name items) = codes "reject"
-deed_word (kind.Reinstate name items) = codes "reinstate"
-deed_word (kind.Destroy name items) = codes "destroy"
-deed_word (kind.Decommission name items) = codes "decommission"
-deed_word (kind.Container name level) = codes "container"
-deed_word (kind.Pack unit children) = codes "pack"
-deed_word (kind.Unpack unit children) = codes "unpack"
-deed_word (kind.UnpackAll unit) = codes "unpack_all"
-deed_word (kind.Seal unit) = codes "seal"
-deed_word (kind.Unseal unit) = codes "unseal"
-deed_word (kind.Void unit) = codes "void"
-deed_word (kind.Declare name good spoiled returned) = codes "declare"
-deed_word (kind.Close name) = codes "close"
-deed_word (kind.Amend name quantity) = codes "amend"
 
 -- the name that a rule has in a reply
 unfoldable pub rule_name : Rule → Text

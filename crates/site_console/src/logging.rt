@@ -4,7 +4,8 @@ ghost use Rattle.outside.specs.Causes.{HasCauseIf};
 ghost use Rattle.outside.specs.Devices.{Puts};
 ghost use Rattle.deed_json.specs.Replies.{station_name};
 ghost use Rattle.site_console.specs.Endings.{is_write_ending};
-ghost use Rattle.site_console.specs.Logs.{deed_word, line_of, log_lines, log_text, operator_word, verdict_word};
+ghost use Rattle.deed_json.specs.Deeds.{deed_word};
+ghost use Rattle.site_console.specs.Logs.{line_of, log_lines, log_text, operator_word, verdict_word};
 ghost use Rattle.site_console.specs.Looks.{IsSaid, IsTold};
 ghost use Rattle.site_console.specs.Serving.{is_write_fault};
 

@@ -1,12 +1,13 @@
 //! The words of a log.
 ghost use Rattle.std.specs.Prelude.{◌≡◌};
-ghost use Rattle.site_console.specs.Logs.{deed_word, operator_word, rule_name, verdict_word};
+ghost use Rattle.deed_json.specs.Deeds.{deed_word};
+ghost use Rattle.site_console.specs.Logs.{operator_word, rule_name, verdict_word};
 
 use deed_words::{Deed, Rule};
 use gs1_keys::Text20;
 
 /// The word that a deed has in a request.
-#[tactic(auto, unfolding(crate::specs::Logs::deed_word))]
+#[tactic(auto, unfolding(deed_json::specs::Deeds::deed_word))]
 pub(crate) fn deed_word(deed: &Deed) -> &'static [u8]
     ensures { result.now ≡ deed_word deed.now }
 {

@@ -22,7 +22,6 @@ mod showing;
 mod single;
 mod store;
 mod submit;
-pub mod turn;
 mod undoing;
 
 pub use laws::{one_history, stop_law};

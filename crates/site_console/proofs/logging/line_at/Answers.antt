@@ -2,7 +2,8 @@ use Rattle.std.proofs.Common.{◌≡◌, ◌+◌, List, ℕ, subst}
 use Rattle.std.specs.Prelude.{IfOk}
 use Rattle.deed_words.specs.Setups.{Setup}
 use Rattle.deed_json.specs.Replies.{station_name}
-use Rattle.site_console.specs.Logs.{deed_word, line_of, operator_word, verdict_word}
+use Rattle.deed_json.specs.Deeds.{deed_word}
+use Rattle.site_console.specs.Logs.{line_of, operator_word, verdict_word}
 use Rattle.site_console.proofs.LogLines.{line_is}
 use Rattle.site_console.proofs.logging.line_at.Goals as goal
 
