@@ -31,6 +31,11 @@ pub fn tell<R: Eprint + Files<File = File>>(rt: &R, status: u8, args: &[String])
         9 => say(rt, JOURNAL, "can't be read or written"),
         10 => say(rt, named_batch(args), "is no batch of the site"),
         11 => say(rt, "the program", "needs more memory than there is"),
+        12 => say(
+            rt,
+            "the port",
+            "couldn't be bound, or a connection at it couldn't be taken",
+        ),
         13 => say(
             rt,
             "standard input",
@@ -51,7 +56,7 @@ fn tell_words<R: Eprint>(rt: &R, args: &[String]) {
         return say(
             rt,
             "a command",
-            "is missing: there are `init SITE`, `run`, `report BATCH`, `export BATCH FROM COUNT`, `check`, `log FROM COUNT` and `sim SEED COUNT`",
+            "is missing: there are `init SITE`, `run`, `serve PORT WORKERS CONNECTIONS`, `report BATCH`, `export BATCH FROM COUNT`, `check`, `log FROM COUNT` and `sim SEED COUNT`",
         );
     };
     match word.as_str() {
@@ -61,6 +66,11 @@ fn tell_words<R: Eprint>(rt: &R, args: &[String]) {
             "takes one word more: a site file, whose name doesn't begin with `-`",
         ),
         "run" => say(rt, "`run`", "takes no further word"),
+        "serve" => say(
+            rt,
+            "`serve`",
+            "takes three words more: a port, 1 to 64 workers, and how many connections, up to 1000000",
+        ),
         "report" => say(rt, "`report`", "takes one word more: the name of a batch"),
         "export" => say(
             rt,
