@@ -5,14 +5,13 @@ In one run it serves 1, 4 and 16 connections, one request after the other and 16
 real file (FOLDER, /var/tmp if it is left out) and once in a memory-backed folder, where a sync costs nothing. Beside them
 stands how many records of that size a second the same disk takes with two syncs each, which is what a journal without
 groups could do at most. Each connection is that of a line station of its own, in a process of its own, which sends
-declarations under its numbers and reads every answer. Each row takes SECONDS, 3 if they are left out. No figure is a
-promise.
+declarations under its numbers, reads every answer, and makes its next requests while it waits. Each row takes SECONDS, 3
+if they are left out. No figure is a promise.
 """
 
 import json
 import multiprocessing
 import os
-import re
 import shutil
 import socket
 import subprocess
@@ -26,6 +25,9 @@ PORT = 18080
 MEMORY = "/dev/shm"
 # as long as a record of one declaration, and the byte that makes it count
 RECORD, GATE = b"r" * 96, b"g"
+
+# what each declaration is answered
+ACCEPTED = b'HTTP/1.1 200 OK\r\ncontent-length: 11\r\ncontent-type: application/json\r\n\r\n{"ok":true}'
 
 SITE = """[site]
 gln = "0614141000012"
@@ -84,36 +86,34 @@ def request(station, number):
     return head + body
 
 
-def read_answers(link, rest, count):
-    """Reads so many answers, each of which must be an acceptance. Gives what was read past them."""
-    while count:
-        end = rest.find(b"\r\n\r\n")
-        if end >= 0:
-            length = int(re.search(rb"content-length: (\d+)", rest[:end]).group(1))
-            if len(rest) >= end + 4 + length:
-                answer, rest = rest[: end + 4 + length], rest[end + 4 + length :]
-                if not answer.startswith(b"HTTP/1.1 200 ") or b'"ok":true' not in answer:
-                    sys.exit(f"refused: {answer!r}")
-                count -= 1
-                continue
+def requests(station, number, count):
+    return b"".join(request(station, number + later) for later in range(count))
+
+
+def read_answers(link, count):
+    """Reads so many answers, each of which must be an acceptance."""
+    answers, length = b"", count * len(ACCEPTED)
+    while len(answers) < length:
         piece = link.recv(1 << 16)
         if not piece:
             sys.exit("the connection was closed")
-        rest += piece
-    return rest
+        answers += piece
+        if not (count * ACCEPTED).startswith(answers):
+            sys.exit(f"refused: {answers!r}")
 
 
 def station(port, line, pipelined, seconds, told):
     """Sends requests for so long, so many at once, and tells how many were answered in which time."""
     link = connect(port)
-    name = b"L%d" % line
-    number, rest = 1, b""
+    name, number = b"L%d" % line, 1
+    coming = requests(name, number, pipelined)
     began = time.monotonic()
     while time.monotonic() - began < seconds:
-        link.sendall(b"".join(request(name, number + i) for i in range(pipelined)))
-        rest = read_answers(link, rest, pipelined)
+        link.sendall(coming)
         number += pipelined
-    told.put(((number - 1), time.monotonic() - began))
+        coming = requests(name, number, pipelined)
+        read_answers(link, pipelined)
+    told.put((number - 1, time.monotonic() - began))
     link.close()
 
 
@@ -175,4 +175,5 @@ def main():
                 )
 
 
-main()
+if __name__ == "__main__":
+    main()

@@ -1,5 +1,6 @@
-//! The text of an answer's head, in place.
+//! The front of an answer, in place: its head, and a short body behind it.
 ghost use Rattle.std.specs.Prelude.{◌≡◌, ◌≤◌, ◌+◌, ◌++◌, [], length, true, codes, decimal};
+ghost use Rattle.std.specs.Bool.{OnTrue, OnFalse};
 ghost use Rattle.station_http.specs.Answers.{is_answered, phrase_of, kind_text, head_text, close_line};
 
 use crate::kind::Kind;
@@ -7,44 +8,56 @@ use http::StatusCode;
 use itoa::Buffer;
 use std::marker::Model;
 
-/// How long an answer's head may be.
-const ROOM: usize = 160;
+/// How long a front may be; a head has 160 bytes at most.
+const ROOM: usize = 512;
 
-/// The head so far.
+/// The front so far.
 #[derive(Drop)]
-pub struct HeadText {
-    bytes: [u8; 160],
+pub struct Front {
+    bytes: [u8; 512],
     len: usize,
 }
 
-impl Model for HeadText {
+impl Model for Front {
     ghost use Rattle.std.specs.Prelude.{List, ℕ, take, ◌≤◌};
 
     ghost Value = { List ℕ };
 
     ghost view = { λ h. take h.len h.bytes };
 
-    ghost invariant = { λ h. h.len ≤ 160 };
+    ghost invariant = { λ h. h.len ≤ 512 };
 }
 
-impl HeadText {
+impl Front {
     fn new() -> Self
         ensures { result ≡ [] }
     {
-        HeadText {
-            bytes: [0; 160],
+        Front {
+            bytes: [0; 512],
             len: 0,
         }
     }
 
     /// Puts a text at the end.
     fn add(&mut self, text: &[u8])
-        requires { length self.old + length text.now ≤ 160 }
+        requires { length self.old + length text.now ≤ 512 }
         ensures { self.new ≡ self.old ++ text.now }
     {
         let end = self.len + text.len();
         self.bytes[self.len..end].copy_from_slice(text);
         self.len = end;
+    }
+
+    /// Puts a text at the end where there is room for it, or changes nothing.
+    pub fn add_short(&mut self, text: &[u8]) -> bool
+        ensures added { OnTrue result (self.new ≡ self.old ++ text.now) }
+        ensures same { OnFalse result (self.new ≡ self.old) }
+    {
+        if text.len() > ROOM - self.len {
+            return false;
+        }
+        self.add(text);
+        true
     }
 
     pub fn bytes(&self) -> &[u8]
@@ -55,11 +68,11 @@ impl HeadText {
 }
 
 /// The head of an answer.
-pub fn answer_head(status: u16, kind: Kind, count: usize, last: bool) -> HeadText
+pub fn answer_head(status: u16, kind: Kind, count: usize, last: bool) -> Front
     requires { is_answered status ≡ true }
     ensures { result ≡ head_text status kind count last }
 {
-    let mut head = HeadText::new();
+    let mut head = Front::new();
     head.add(b"HTTP/1.1 ");
     let mut digits = Buffer::new();
     head.add(digits.format(status).as_bytes());

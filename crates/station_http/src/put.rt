@@ -22,7 +22,8 @@ pub fn put_all<O: Sink>(out: &mut O, text: &[u8]) -> Result<(), Failed>
     Ok(())
 }
 
-/// Puts an answer as `Conn::answer` does, where there is no connection to ask: memory was wanting for one.
+/// Puts an answer as `Conn::answer` does, where there is no connection to ask: memory was wanting for one. A short one goes
+/// out in one call.
 pub fn put_answer<O: Sink>(
     sink: &mut O,
     status: u16,
@@ -35,8 +36,11 @@ pub fn put_answer<O: Sink>(
     ensures cause { HasCause (O.write_faults sink.old) (O.write_faults sink.new) result }
     ensures beside { O.beside_puts sink.new ≡ O.beside_puts sink.old }
 {
-    let head = answer_head(status, kind, body.len(), last);
-    let Ok(()) = put_all(sink, head.bytes()) else {
+    let mut front = answer_head(status, kind, body.len(), last);
+    if front.add_short(body) {
+        return put_all(sink, front.bytes());
+    }
+    let Ok(()) = put_all(sink, front.bytes()) else {
         return Err(Failed);
     };
     put_all(sink, body)
