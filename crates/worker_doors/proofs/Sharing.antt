@@ -5,7 +5,7 @@ use Rattle.std.proofs.lemmas.Bool.{lt-ltb, ltb-false, ltb-true}
 use Rattle.outside.specs.Doors.{DoorState, with_quota}
 use Rattle.outside.specs.declared.tcp.TcpDoor.{TcpDoor}
 use Rattle.command_words.specs.declared.command.ServeWords.{ServeWords}
-use Rattle.worker_doors.specs.Shares.{AreShares, share, shared, AllAreShared}
+use Rattle.worker_doors.specs.Shares.{AreShares, share, shared, AllAreShared, SharesAreEven}
 
 -- what a listener's door tells
 abbrev pub told_by : TcpDoor → DoorState
@@ -68,3 +68,16 @@ all_are_shared words h =
     let all = high_part words words.workers (omega (arith, rest)) (inr rest) in
     let parts = div-add-mod words.connections words.workers in
     omega (arith, all, parts, mul_comm words.workers (words.connections / words.workers))
+
+-- of two tests whether a number is below another, the first one holds where the second one does
+even_by : (b d : Bool) (first later r each : ℕ) → nat_lt first r ≡ b → nat_lt later r ≡ d → first ≤ later
+    → (each + cond b 1 0 ≡ each + cond d 1 0) ⊎ (each + cond b 1 0 ≡ each + cond d 1 0 + 1)
+even_by true true first later r each e f h = inl refl
+even_by false false first later r each e f h = inl refl
+even_by true false first later r each e f h = inr (omega arith)
+even_by false true first later r each e f h = absurd (omega (arith, ltb-false first r e, ltb-true later r f, h))
+
+pub shares_are_even : SharesAreEven
+shares_are_even words first later h =
+    let rest = words.connections % words.workers in
+    even_by (nat_lt first rest) (nat_lt later rest) first later rest (words.connections / words.workers) refl refl h

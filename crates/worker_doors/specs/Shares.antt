@@ -1,5 +1,5 @@
 -- How the connections are shared among the doors.
-use Rattle.std.specs.Prelude.{◌≡◌, ◌<◌, ◌≤◌, ◌+◌, ◌/◌, ◌%◌, ℕ, List, None, cond, length, nat_lt, slice_index_or, zero, suc}
+use Rattle.std.specs.Prelude.{◌≡◌, ◌<◌, ◌≤◌, ◌+◌, ◌/◌, ◌%◌, ◌⊎◌, ℕ, List, None, cond, length, nat_lt, slice_index_or, zero, suc}
 use Rattle.outside.specs.Doors.{DoorState, with_quota}
 use Rattle.command_words.specs.declared.command.ServeWords.{ServeWords}
 
@@ -18,5 +18,10 @@ abbrev pub shared : ServeWords → ℕ → ℕ
 shared words zero = 0
 shared words (suc k) = shared words k + share words k
 
+-- the shares of the workers come to all connections
 abbrev pub AllAreShared : Type 0
 AllAreShared = (words : ServeWords) → 1 ≤ words.workers → shared words words.workers ≡ words.connections
+
+-- of two doors the first one has as many as the other, or one more
+abbrev pub SharesAreEven : Type 0
+SharesAreEven = (words : ServeWords) (first later : ℕ) → first ≤ later → (share words first ≡ share words later) ⊎ (share words first ≡ share words later + 1)

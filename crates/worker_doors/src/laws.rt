@@ -1,7 +1,8 @@
 //! Laws of shares.
-ghost use Rattle.worker_doors.specs.Shares.{AllAreShared};
+ghost use Rattle.worker_doors.specs.Shares.{AllAreShared, SharesAreEven};
 
-/// The shares of the workers come to all connections, and no two of them differ by more than one.
+/// The shares of the workers come to all connections. Of two doors the first one has as many as the other, or one more.
 pub fn all_are_shared()
-    ensures { AllAreShared }
+    ensures shared { AllAreShared }
+    ensures even { SharesAreEven }
 {}
