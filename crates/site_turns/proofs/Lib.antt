@@ -1,4 +1,5 @@
 pub mod Desked
+mod KeptReplies
 mod Printed
 pub mod Stepped
 pub mod Counted

@@ -3,10 +3,9 @@ use Rattle.std.proofs.Common.{◌≡◌, ◌∙◌, ◌⊎◌, ◌++◌, ◌∷�
 use Rattle.std.specs.Prelude.{All}
 use Rattle.std.specs.List.{AllByRecursion as Every}
 use Rattle.deed_words.specs.Setups.{Setup}
-use Rattle.deed_words.specs.History.{IsLawful, world_of}
+use Rattle.deed_words.specs.History.{IsLawful}
 use Rattle.deed_words.specs.Numbers.{Means, Kept}
 use Rattle.deed_words.specs.Proper.{IsProperEntry}
-use Rattle.deed_words.specs.Replies.{reply_to}
 use Rattle.deed_words.specs.declared.deed.Deed.{Deed}
 use Rattle.deed_words.specs.declared.entry.Ask.{Ask}
 use Rattle.deed_words.specs.declared.entry.Entry.{Entry}
@@ -19,18 +18,11 @@ use Rattle.site_store.specs.Noting.{Noted}
 use Rattle.site_store.specs.States.{State, all_of}
 use Rattle.site_store.specs.Steps.{Answers, AreTries, Lost, Mended, Steps, Tries, Try, Unmended, Written, lost_from, lost_in, new_in, outcomes_in}
 use Rattle.site_turns.specs.Outcomes.{IsPrintable}
+use Rattle.site_turns.proofs.KeptReplies.{KeepsReplies, StaysKept, one_kept}
 
 -- what a number of a station has kept names stations of the setup alone
 abbrev pub NamesStations : Type 0
 NamesStations = (site : Setup) (history : List Entry) (station number : ℕ) (deed : Deed) (reply : Reply) → IsLawful site history → All IsProperEntry history → Means site history station number deed (Kept reply) → NamesStationsOf site reply
-
--- each entry of a lawful history is kept with the reply that it got
-abbrev pub KeepsReplies : Type 0
-KeepsReplies = (site : Setup) (front more : List Entry) (entry : Entry) → IsLawful site (front ++ entry ∷ more) → Means site (front ++ entry ∷ more) entry.station entry.number entry.deed (Kept (reply_to site (world_of site front) entry))
-
--- what was kept stays so
-abbrev pub StaysKept : Type 0
-StaysKept = (site : Setup) (history more : List Entry) (station number : ℕ) (deed : Deed) (reply : Reply) → Means site history station number deed (Kept reply) → Means site (history ++ more) station number deed (Kept reply)
 
 -- the same refusal of each tells no reply
 all_disk : {X : Type 0} (site : Setup) (xs : List X) → Every (IsPrintable site) (map (λ (x : X). DiskFault) xs)
@@ -42,20 +34,10 @@ all_memory site [] = tt
 all_memory site (x ∷ xs) = (tt, all_memory site xs)
 
 module _ (names : NamesStations) (replies : KeepsReplies) (stays : StaysKept) (site : Setup) (history : List Entry) (lawful : IsLawful site history) (proper : All IsProperEntry history) where
-  kept_here : (front more : List Entry) (ask : Ask) (reply : Reply) → history ≡ front ++ more → Means site front ask.station ask.number ask.deed (Kept reply) → NamesStationsOf site reply
-  kept_here front more ask reply parts means =
-      names site history ask.station ask.number ask.deed reply lawful proper (subst (λ (h : List Entry). Means site h ask.station ask.number ask.deed (Kept reply)) (sym parts) (stays site front more ask.station ask.number ask.deed reply means))
-
-  entered_here : (front more : List Entry) (entry : Entry) → history ≡ front ++ entry ∷ more → NamesStationsOf site (reply_to site (world_of site front) entry)
-  entered_here front more entry parts =
-      names site history entry.station entry.number entry.deed (reply_to site (world_of site front) entry) lawful proper
-      (subst (λ (h : List Entry). Means site h entry.station entry.number entry.deed (Kept (reply_to site (world_of site front) entry))) (sym parts) (replies site front more entry (subst (λ (h : List Entry). IsLawful site h) parts lawful)))
-
   -- a request whose new entry, if it has one, is in the history
   one_fits : (end : ℕ) (g front : List Entry) (worker : ℕ) (ask : Ask) (taken : Taken) (outcome : Outcome) (new more : List Entry) → history ≡ g ++ (new ++ more) → Tries site end g front worker ask taken outcome new → IsPrintable site outcome
-  one_fits end g front worker ask taken (Replied reply) new more parts (inl found) = kept_here g (new ++ more) ask reply parts found.0.means
-  one_fits end g front worker ask taken (Replied reply) new more parts (inr enters) =
-      subst (NamesStationsOf site) (sym enters.reply_is) (entered_here g more enters.entry (parts ∙ ap (λ (l : List Entry). g ++ (l ++ more)) enters.new_is))
+  one_fits end g front worker ask taken (Replied reply) new more parts tries =
+      names site history ask.station ask.number ask.deed reply lawful proper (one_kept replies stays site history lawful end g front worker ask taken (Replied reply) new more parts tries).0
   one_fits end g front worker ask taken NumberReused new more parts tries = tt
   one_fits end g front worker ask taken (NumberGap last) new more parts tries = tt
   one_fits end g front worker ask taken DiskFault new more parts tries = tt

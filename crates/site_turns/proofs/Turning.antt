@@ -22,7 +22,7 @@ use Rattle.site_answers.specs.Saying.{Answer, fixed}
 use Rattle.site_answers.specs.declared.fault_name.FaultName.TheVariants.{Memory}
 use Rattle.site_turns.specs.Answering.{IsSubmitted, Posts, Submits, Tells}
 use Rattle.site_turns.specs.Outcomes.{AreSaid}
-use Rattle.site_turns.specs.Taking.{AreTaken, first_station}
+use Rattle.site_turns.specs.Taking.{AreTaken, TakesSome, first_station}
 use Rattle.site_turns.specs.Posted.{Posted}
 use Rattle.site_turns.specs.Posts.{AreAsksOf, IsAskOf, ask_of, posted}
 use Rattle.site_turns.specs.Turns.{IsIdle, IsLeft, IsPosted, IsPostedAs, IsStep, IsToldFirst, IsUnknown, TakesTurn}
@@ -211,13 +211,14 @@ asks_none site [] (ask ∷ asks) are none = absurd are
 asks_none site (post ∷ posts) asks are none = absurd (cc)
 
 -- one step was taken
-pub step_turn : (origin : Origin) (worker : ℕ) (posts : List Posted) (asks : List Ask) (xs ys : List Noted) (outcomes : List Outcome) (answers : List Answer) (rest : List Posted) → AreTaken origin.setup posts asks rest → asks ≢ [] → Submits origin worker asks xs ys outcomes → AreSaid origin.setup outcomes answers
+pub step_turn : (origin : Origin) (worker : ℕ) (posts : List Posted) (asks : List Ask) (xs ys : List Noted) (outcomes : List Outcome) (answers : List Answer) (rest : List Posted) → TakesSome origin.setup posts asks rest → asks ≢ [] → Submits origin worker asks xs ys outcomes → AreSaid origin.setup outcomes answers
     → TakesTurn origin worker posts xs ys answers rest
-step_turn origin worker posts asks xs ys outcomes answers rest t some submits said = inl (record {
+step_turn origin worker posts asks xs ys outcomes answers rest takes some submits said = let t = takes.taken in inl (record {
   first = t.first;
   asks = asks;
   some = λ none. some (asks_none origin.setup t.first asks t.are none);
   parts = t.parts;
+  stopped = takes.stopped;
   are = t.are;
   submitted = record { outcomes = outcomes; submits = submits; said = said };
 })

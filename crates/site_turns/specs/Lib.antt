@@ -8,3 +8,4 @@ pub mod Turns
 pub mod Taking
 pub mod Shown
 pub mod Waiting
+pub mod Laws

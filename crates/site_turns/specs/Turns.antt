@@ -12,13 +12,15 @@ use Rattle.site_answers.specs.Told.{unasked_answer}
 use Rattle.site_turns.specs.Answering.{IsSubmitted, Tells}
 use Rattle.site_turns.specs.Posted.{Posted}
 use Rattle.site_turns.specs.Posts.{AreAsksOf, ask_of}
+use Rattle.site_turns.specs.Taking.{first_station}
 
--- the first requests, whose stations are known, were answered by one step, and these are left over
+-- The first requests, up to one whose station isn't known, were answered by one step, and these are left over.
 pub record IsStep (origin : Origin) (worker : ℕ) (posts : List Posted) (xs ys : List Noted) (answers : List Answer) (rest : List Posted) : Type 0 where
   pub first : List Posted
   pub asks : List Ask
   pub some : first ≢ []
   pub parts : posts ≡ first ++ rest
+  pub stopped : first_station origin.setup rest ≡ None
   pub are : AreAsksOf origin.setup first asks
   pub submitted : IsSubmitted origin worker asks xs ys answers
 

@@ -96,12 +96,12 @@ fn without_step(alloc: Global, posts: VecDeque<Post>, said: Vec<Response>) -> An
     requires spare { length posts.items ≤ vec_capacity said }
     ensures { IsLeft posts.items result.said.items result.rest.items }
 {
-    let mut posts = posts;
+    let mut rest = posts;
     let mut said = said;
-    let Some(post) = posts.pop_front() else {
-        return Answered { said, rest: posts };
+    let Some(post) = rest.pop_front() else {
+        return Answered { said, rest };
     };
     let _post = post;
     said.push_reserved(unasked_response(alloc, AskFault::NoStation));
-    Answered { said, rest: posts }
+    Answered { said, rest }
 }

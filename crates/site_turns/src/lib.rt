@@ -8,6 +8,7 @@
 mod answering;
 mod asking;
 mod group;
+mod laws;
 mod lists;
 mod post;
 mod responding;
@@ -18,6 +19,7 @@ mod unread;
 
 pub use answering::{answer, answer_posts, answer_unread, show};
 pub use group::{Answered, Group};
+pub use laws::answered_are_kept;
 pub use lists::Lists;
 pub use post::{Post, read_post};
 pub use serving::DeskStore;

@@ -62,4 +62,4 @@ returns-clause-turn g c =
     let some : asks.items ≢ [] = something asks.items (λ none. let full : length asks.items ≢ 0 = grind (arith, nat_tests, c.is_empty.ensures, c.if-is_empty.false, asks.ok) in full none) in
     let setup_is = c.setup-2.ensures ∙ ap (λ v. v.setup) c.site-2.ensures ∙ ap (λ (o : Origin). o.setup) c.step.ensures.origin in
     let said = subst (λ (site : Setup). AreSaid site outcomes c.respond.new.said.items) setup_is (subst (λ (l : List Outcome). AreSaid c.setup-2.result.now l c.respond.new.said.items) c.deref.ensures.value c.respond.ensures) in
-    step_turn origin c.args.worker posts asks.items (desk_notes s) (desk_notes u) outcomes c.respond.new.said.items rest taken.taken some c.step.ensures.submits said
+    step_turn origin c.args.worker posts asks.items (desk_notes s) (desk_notes u) outcomes c.respond.new.said.items rest taken some c.step.ensures.submits said
