@@ -114,7 +114,7 @@ module _ (origin : Origin) (worker : ℕ) (left0 left1 held0 held1 held2 : Optio
     from = k.from;
     to = Appends-trans held0 held1 held2 (concat (map text_in xs)) put k.to to;
     within = k.within;
-    answers = (map text_in xs, last_text name, put, refl, refl, (part.1.more, sym part.1.whole));
+    answers = (map text_in xs, last_text name, put, refl, refl, part.1);
     given = k.given;
     ends = (fault_front taken (asks_of xs) name fault, inr (name, fault, refl));
     few = k.few;

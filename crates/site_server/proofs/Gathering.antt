@@ -9,7 +9,7 @@ use Rattle.turn_desk.specs.declared.view.Noted.{Noted}
 use Rattle.turn_desk.specs.declared.view.Origin.{Origin}
 use Rattle.turn_desk.specs.Notes.{Turned}
 use Rattle.station_http.specs.declared.asked.Asked.{Asked}
-use Rattle.station_http.specs.Puts.{IsPutOf}
+use Rattle.station_http.specs.Puts.{IsPart, IsPutOf}
 use Rattle.site_answers.specs.Saying.{Answer, text_of}
 use Rattle.site_turns.specs.Answering.{Answers}
 use Rattle.site_turns.specs.Groups.{AnswersAll}
@@ -109,7 +109,7 @@ module _ (origin : Origin) (worker : ℕ) (asks : List Asked) (last : Bool) (hel
         put = (
           concat (map text_in s.exchanges) ++ e.put.0,
           Appends-trans held held1 held2 (concat (map text_in s.exchanges)) e.put.0 s.to e.put.1,
-          (map text_in s.exchanges, text_in e.exchange, e.put.0, texts_all s.exchanges (e.exchange ∷ []), refl, (e.put.2.more, sym e.put.2.whole)),
+          (map text_in s.exchanges, text_in e.exchange, e.put.0, texts_all s.exchanges (e.exchange ∷ []), refl, e.put.2),
         );
         others = tt;
       }
@@ -168,7 +168,7 @@ one_put : {T E : Type 0} (asked : Asked) (said : Answer) (others mine : List Not
 one_put asked said others mine held held' (Ok value) p =
     let text = text_of said asked.close in (p.0, p.1, p.2 ∙ (sym (append-nil text) ∙ sym (append-nil (text ++ []))))
 one_put asked said others mine held held' (Err fault) p =
-    let text = text_of said asked.close in (p.0, p.1, ([], text ++ [], p.0, refl, refl, (p.2.more, append-nil text ∙ sym p.2.whole)))
+    let text = text_of said asked.close in (p.0, p.1, ([], text ++ [], p.0, refl, refl, subst (IsPart p.0) (sym (append-nil text)) p.2))
 
 none_waits : {T E : Type 0} (result : Result T E) → OnOk result (ArePosts [] [] × CloseAs false [])
 none_waits (Ok value) = (tt, tt)

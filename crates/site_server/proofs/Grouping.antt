@@ -136,7 +136,7 @@ group_answered origin worker [] (p ∷ first) of xs ys answers there few are all
 group_answered origin worker (a ∷ some) [] of xs ys answers there few are all sub = absurd are
 group_answered origin worker (a ∷ []) (p ∷ q ∷ first) of xs ys answers there few are all sub = absurd are.1
 group_answered origin worker (a ∷ []) (p ∷ []) of xs ys answers there few are all sub =
-    let alone = turn_alone origin worker p xs ys answers [] (inl (record { first = p ∷ []; asks = of; some = there; parts = refl; are = all; submitted = sub })) in
+    let alone = turn_alone origin worker p xs ys answers [] (inl (record { first = p ∷ []; asks = of; some = there; parts = refl; stopped = refl; are = all; submitted = sub })) in
     subst (λ (l : List Answer). AnswersAll origin worker (a ∷ []) xs ys l) (sym alone.one) (one_answered origin worker a p xs ys alone.answer are.0 alone.posted)
 group_answered origin worker (a ∷ b ∷ some) (p ∷ first) of xs ys answers there few are all sub = record { asks = of; ask_for = all_ask_for origin.setup (a ∷ b ∷ some) (p ∷ first) of are all; few = few; submitted = sub }
 

@@ -7,4 +7,5 @@ mod Sessions
 mod Seen
 mod Told
 mod Completing
+mod Counting
 mod Chains

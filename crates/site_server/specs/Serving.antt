@@ -1,5 +1,5 @@
 -- A session with a link.
-use Rattle.std.specs.Prelude.{◌≡◌, ◌⊎◌, ◌≤◌, ℕ, Bool, true, false, List, [], ◌∷◌, ◌++◌, length, map, Option, Some, None}
+use Rattle.std.specs.Prelude.{◌≡◌, ◌⊎◌, ◌≤◌, ◌+◌, ℕ, Bool, true, false, List, [], ◌∷◌, ◌++◌, length, map, Option, Some, None}
 use Rattle.std.specs.List.{concat}
 use Rattle.std.specs.Io.KnownBytes.{Consumes, Appends, IsAtEnd}
 use Rattle.outside.specs.Doors.{Wire}
@@ -11,6 +11,7 @@ use Rattle.station_http.specs.declared.fault.HttpFault.{HttpFault}
 use Rattle.station_http.specs.declared.fault.HttpFault.TheVariants as http
 use Rattle.station_http.specs.Talk.{IsSession, IsFront, is_last}
 use Rattle.station_http.specs.Limits.{session_limit}
+use Rattle.station_http.specs.Puts.{IsPart}
 use Rattle.site_server.specs.declared.end.SessionEnd.{SessionEnd}
 use Rattle.site_server.specs.declared.end.SessionEnd.TheVariants.{Ended, Cut, Refused, ReadFault, WriteFault, SessionLong, Memory}
 use Rattle.site_answers.specs.declared.fault_name.FaultName.{FaultName}
@@ -26,13 +27,10 @@ abbrev pub is_write_fault : SessionEnd → Bool
 is_write_fault WriteFault = true
 is_write_fault end = false
 
-abbrev pub Begins : List ℕ → List ℕ → Type 0
-Begins front text = (more : List ℕ) × (text ≡ front ++ more)
-
--- the texts were put one after the other; where a put failed, a front of the last one
+-- the texts were put one after the other; where a put failed, those in front whole, and of the last one a front that isn't all of it
 abbrev pub IsPut : Bool → List (List ℕ) → List ℕ → Type 0
 IsPut false texts put = put ≡ concat texts
-IsPut true texts put = (whole : List (List ℕ)) × (last : List ℕ) × (front : List ℕ) × (texts ≡ whole ++ last ∷ []) × (put ≡ concat whole ++ front) × Begins front last
+IsPut true texts put = (whole : List (List ℕ)) × (last : List ℕ) × (part : List ℕ) × (texts ≡ whole ++ last ∷ []) × (put ≡ concat whole ++ part) × IsPart part last
 
 -- the last answer, of a fault
 abbrev pub last_text : FaultName → List ℕ
@@ -69,3 +67,11 @@ pub record IsServed (origin : Origin) (worker : ℕ) (before after : Wire) (seen
   pub few : length (asks_of exchanges) ≤ length taken
   pub reads : HasCauseIf (is_read_fault end) before.read_faults after.read_faults
   pub writes : HasCauseIf (is_write_fault end) before.write_faults after.write_faults
+
+-- The turns that a session takes are no more than the requests that the bytes taken begin with.
+pub record TakesTurns (left left' : Option (List ℕ)) (turns turns' : ℕ) : Type 0 where
+  pub taken : List ℕ
+  pub requests : List Asked
+  pub from : Consumes left left' taken
+  pub are : IsFront taken requests
+  pub few : turns' ≤ turns + length requests

@@ -4,7 +4,7 @@ ghost use Rattle.outside.specs.Causes.{HasCauseIf};
 ghost use Rattle.outside.specs.Devices.{Puts};
 ghost use Rattle.outside.specs.Doors.{wire};
 ghost use Rattle.station_http.specs.declared.stage.Stage.TheVariants.{Open};
-ghost use Rattle.site_server.specs.Serving.{IsServed, is_write_fault};
+ghost use Rattle.site_server.specs.Serving.{IsServed, TakesTurns, is_write_fault};
 ghost use Rattle.site_server.specs.Closing.{ClosesWith, EndsBy, is_spent, is_quiet, quiet_end, end_with};
 
 use crate::answers::{GROUP, answer_gathered, take_in};
@@ -32,6 +32,7 @@ pub fn serve_connection<L: Link, D: Disk, C: Clock, W: Words, R: Wait>(
     requires turns { pass.old.turns < 2 ^ 56 }
     ensures same { (pass.new.desk ≡ desk.now) × (pass.new.worker ≡ pass.old.worker) × (pass.new.last ≡ pass.old.last) }
     ensures turns { pass.new.turns ≤ pass.old.turns + 2 ^ 36 }
+    ensures requests { TakesTurns (L.left link.old) (L.left link.new) pass.old.turns pass.new.turns }
     ensures served { IsServed desk.now.origin pass.old.worker
         (wire (L.left link.old) (L.held link.old) (L.read_faults link.old) (L.write_faults link.old))
         (wire (L.left link.new) (L.held link.new) (L.read_faults link.new) (L.write_faults link.new)) pass.old.seen pass.new.seen result }
@@ -61,6 +62,7 @@ fn serve_requests<L: Link, D: Disk, C: Clock, W: Words, R: Wait>(
     requires none { posts.old.items ≡ [] }
     ensures same { (pass.new.desk ≡ desk.now) × (pass.new.worker ≡ pass.old.worker) × (pass.new.last ≡ pass.old.last) }
     ensures turns { pass.new.turns ≤ pass.old.turns + 2 ^ 36 }
+    ensures requests { TakesTurns (L.left link.old) (L.left link.new) pass.old.turns pass.new.turns }
     ensures served { IsServed desk.now.origin pass.old.worker
         (wire (L.left link.old) (L.held link.old) (L.read_faults link.old) (L.write_faults link.old))
         (wire (L.left link.new) (L.held link.new) (L.read_faults link.new) (L.write_faults link.new)) pass.old.seen pass.new.seen result }

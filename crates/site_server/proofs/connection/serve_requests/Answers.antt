@@ -1,5 +1,7 @@
-use Rattle.std.proofs.Common.{◌∙◌, length, inl, refl, ap, arith}
+use Rattle.std.proofs.Common.{◌∙◌, [], length, inl, refl, ap, arith}
+use Rattle.std.proofs.KnownBytes.{Consumes-nil}
 use Rattle.station_http.specs.declared.asked.Asked.{Asked}
+use Rattle.site_server.proofs.Counting.{counted_all, none_counted, one_counted}
 use Rattle.site_server.proofs.Goings.{either_so, held_as, none_held, read_more, rose_from, some_answered, starting, told_as}
 use Rattle.site_server.proofs.Sessions.{ends_before_end, ends_before_fault, ends_between, ends_by_fault, ends_in_answers}
 use Rattle.site_server.proofs.connection.serve_requests.Goals as goal
@@ -13,6 +15,7 @@ requests-init g c =
       waits = inl c.requires.none;
       few = omega (arith, none);
       turns = omega (arith, none, ap length f.0);
+      counted = none_counted (g.L.Source.left c.args.link.now) c.args.conn.now c.args.pass.now.turns (length c.args.posts.now.items) f.0 f.1 f.2 none;
       within = omega (arith, f.1);
       desk = c.requires.own;
       worker = refl;
@@ -41,6 +44,32 @@ returns-in_default-answer_gathered-clause-turns g c = let i = c.requests.invaria
 
 pub returns-in-Ok-None-clause-turns : goal.returns-in-Ok-None-clause-turns
 returns-in-Ok-None-clause-turns g c = let i = c.requests.invariant in let turns = i.turns in let within = i.within in let more = c.answer_gathered-in-Ok-None.ensures.turns in omega (arith, turns, within, more)
+
+pub returns-in_default-clause-requests : goal.returns-in_default-clause-requests
+returns-in_default-clause-requests g c =
+    let i = c.requests.invariant in let t = c.in-Err.ensures.answer in let a = c.answer_gathered.ensures in
+    counted_all _ _ _ _ _ _ _ _ c.requests.conn t.0 _ i.counted t.1 a.left a.turns
+
+pub returns-in-Err-clause-requests : goal.returns-in-Err-clause-requests
+returns-in-Err-clause-requests g c =
+    let i = c.requests.invariant in let t = c.in-Err.ensures.answer in let a = c.answer_gathered.ensures in
+    counted_all _ _ _ _ _ _ _ _ c.requests.conn t.0 _ i.counted t.1 (c.end_by.ensures.left ∙ a.left) a.turns
+
+pub returns-in_default-answer_gathered-clause-requests : goal.returns-in_default-answer_gathered-clause-requests
+returns-in_default-answer_gathered-clause-requests g c =
+    let i = c.requests.invariant in let t = c.in-Ok-None.ensures.answer in let a = c.answer_gathered-in-Ok-None.ensures in
+    counted_all _ _ _ _ _ _ _ _ c.requests.conn t.0 _ i.counted t.1 a.left a.turns
+
+pub returns-in-Ok-None-clause-requests : goal.returns-in-Ok-None-clause-requests
+returns-in-Ok-None-clause-requests g c =
+    let i = c.requests.invariant in let t = c.in-Ok-None.ensures.answer in let a = c.answer_gathered-in-Ok-None.ensures in
+    counted_all _ _ _ _ _ _ _ _ c.requests.conn t.0 _ i.counted t.1 a.left a.turns
+
+pub returns-in_default-take_in-clause-requests : goal.returns-in_default-take_in-clause-requests
+returns-in_default-take_in-clause-requests g c =
+    let i = c.requests.invariant in let t = c.take_in.ensures in let asked : Asked = c.in-Ok-Some.asked in
+    let counted = one_counted _ _ _ _ _ _ _ _ _ c.requests.conn c.next_of.new.conn c.in-Ok-Some.field-0 asked _ _ i.counted refl c.in-Ok-Some.field-0-is c.in-Ok-Some.ensures.answer t.left t.turns in
+    counted_all _ _ _ _ _ _ _ _ c.next_of.new.conn [] 0 counted (Consumes-nil _) refl (omega arith)
 
 pub returns-in_default-clause-served : goal.returns-in_default-clause-served
 returns-in_default-clause-served g c =
@@ -110,6 +139,7 @@ requests-preserved g c =
       waits = f.waits;
       few = f.few;
       turns = omega (arith, measure, held, turns, more);
+      counted = one_counted _ _ _ _ _ _ _ _ _ c.requests.conn c.next_of.new.conn c.in-Ok-Some.field-0 asked _ _ i.counted refl c.in-Ok-Some.field-0-is c.in-Ok-Some.ensures.answer t.left more;
       within = c.next_of.ensures.within;
       desk = t.same.0;
       worker = t.same.1 ∙ i.worker;

@@ -1,6 +1,7 @@
 use Rattle.std.proofs.Common.{◌≡◌, ◌⊎◌, ◌≤◌, ◌<◌, ◌+◌, ◌-◌, [], true, length}
 use Rattle.station_http.specs.Limits.{session_limit}
 use Rattle.station_http.specs.Waiting.{IsWaiting}
+use Rattle.site_server.proofs.Counting.{Counted}
 use Rattle.site_server.proofs.Goings.{Holding}
 use Rattle.site_server.proofs.connection.serve_requests.Given as goal
 
@@ -10,6 +11,7 @@ invariant-requests g l = record {
   waits : (l.posts.items ≡ []) ⊎ IsWaiting l.conn true;
   few : length l.posts.items < 16;
   turns : l.pass.turns + length l.posts.items + length l.conn.pending ≤ l.fn.pass.turns + l.conn.taken;
+  counted : Counted (g.L.Source.left l.fn.link) (g.L.Source.left l.link) l.conn l.fn.pass.turns l.pass.turns (length l.posts.items);
   within : l.conn.taken ≤ session_limit;
   desk : l.pass.desk ≡ l.desk;
   worker : l.pass.worker ≡ l.fn.pass.worker;
