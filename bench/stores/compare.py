@@ -1,13 +1,13 @@
 """compare.py PROGRAM: runs each work in each form, and prints the times and the peaks of memory beside each other.
 
-A time is the processor's for the whole program, and the least of three runs. Memory is what the program had at most.
+A time is the processor's for the whole program, and the middle one of seven runs. Memory is what the program had at most.
 """
 
 import os
 import subprocess
 import sys
 
-RUNS = 3
+RUNS = 7
 
 
 def run_once(words):
@@ -21,9 +21,9 @@ def run_once(words):
     return used.ru_utime + used.ru_stime, used.ru_maxrss / 1024, int(steps)
 
 
-def least(*words):
-    """The run that took the least time."""
-    return min(run_once([str(word) for word in words]) for _ in range(RUNS))
+def middle(*words):
+    """The run that took the middle time."""
+    return sorted(run_once([str(word) for word in words]) for _ in range(RUNS))[RUNS // 2]
 
 
 def told(run):
@@ -33,7 +33,7 @@ def told(run):
 
 def compare(work, rows):
     """Both forms of a work."""
-    stores, plain = least(work, rows, "stores"), least(work, rows, "plain")
+    stores, plain = middle(work, rows, "stores"), middle(work, rows, "plain")
     time, peak = stores[0] / plain[0], stores[1] / plain[1]
     print(f"{work:8} {rows:8}  stores {told(stores)}")
     print(f"{'':17}  plain  {told(plain)}  time {time:.2f}-fold, memory {peak:.2f}-fold")
@@ -51,7 +51,7 @@ def main():
     for work, form in (("batches", "stores"), ("site", "many"), ("site", "one")):
         times = []
         for rows in (100_000, 1_000_000):
-            run = least(work, rows, form)
+            run = middle(work, rows, form)
             times.append(run[0])
             print(f"{work:8} {rows:8}  {form:6} {told(run)}")
         grow(f"{work} {form}", *times)
